@@ -1,0 +1,5 @@
+pub mod Digits
+pub mod Cuts
+pub mod Spellings
+pub mod Fronts
+pub mod Commands

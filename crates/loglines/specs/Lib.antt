@@ -1,0 +1,5 @@
+pub mod Faults
+pub mod Spans
+pub mod Words
+pub mod Text
+pub mod Readers
