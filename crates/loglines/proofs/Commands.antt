@@ -88,7 +88,7 @@ module _ (letter : ℕ) (words : List ℕ) (opened : Bool) where
   with-letter b c is e = ap (λ l. l ∷ words) (sym is) ∙ e
 
   pub no-pair : letter ≡ 80 → (a : ℕ) (rest : List ℕ) → Front decimal Short words a rest
-    → ((p : ℕ × Mark) → Both Short (OfMark Short) p → rest ≡ two-words decimal mark-word p → ⊥) → (c : Command) → Asks opened c → letter ∷ words ≡ text-of c → ⊥
+      → ((p : ℕ × Mark) → Both Short (OfMark Short) p → rest ≡ two-words decimal mark-word p → ⊥) → (c : Command) → Asks opened c → letter ∷ words ≡ text-of c → ⊥
   no-pair is a rest h none c asks e =
       let q = only-pair c words (with-letter 80 c is e) in
       let v = subst (Numbers Short) (q .3) (asks .0) in

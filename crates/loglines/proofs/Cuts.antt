@@ -41,10 +41,10 @@ module _ (stop : ℕ) where
       ⊎-elim
       (λ lt. absurd (free n lt (sym (getD-append-left w tail 0 n lt) ∙ sp .stops (omega arith))))
       (λ ge.
-          ⊎-elim
-          (λ over. absurd (sp .before (length w) over (at-seam w tail ∙ at (omega (arith, sp .within)))))
-          (λ le. omega arith)
-          (order (length w) n))
+      ⊎-elim
+      (λ over. absurd (sp .before (length w) over (at-seam w tail ∙ at (omega (arith, sp .within)))))
+      (λ le. omega arith)
+      (order (length w) n))
       (order n (length w))
 
   pub spans-at : (w tail : List ℕ) → Free stop w → Stopped stop tail → Spans stop (w ++ tail) (length w)
@@ -59,9 +59,10 @@ module _ (stop : ℕ) where
   -- a text is cut at its first stop in one way
   pub cut-unique : (w tail v rest : List ℕ) → Free stop w → Stopped stop tail → Free stop v → Stopped stop rest → w ++ tail ≡ v ++ rest → (w ≡ v) × (tail ≡ rest)
   cut-unique w tail v rest fw st fv sr e =
-      let n : length w ≡ length v = sym (span-unique w tail (length v) fw st (subst (λ l. Spans stop l (length v)) (sym e) (spans-at v rest fv sr))) in
-      (sym (take-append-seam w tail) ∙ (λ i. take (n i) (e i)) ∙ take-append-seam v rest,
-       sym (drop-append-seam w tail) ∙ (λ i. drop (n i) (e i)) ∙ drop-append-seam v rest)
+      let n : length w ≡ length v = sym (span-unique w tail (length v) fw st (subst (λ l. Spans stop l (length v)) (sym e) (spans-at v rest fv sr))) in (
+        sym (take-append-seam w tail) ∙ (λ i. take (n i) (e i)) ∙ take-append-seam v rest,
+        sym (drop-append-seam w tail) ∙ (λ i. drop (n i) (e i)) ∙ drop-append-seam v rest,
+      )
 
   -- the parts of a text that begins with a part
   pub parts-first : (w s : List ℕ) → Free stop w → parts stop (w ++ (stop ∷ s)) ≡ w ∷ parts stop s
@@ -81,7 +82,7 @@ module _ (stop : ℕ) where
   pub parts-span : (s : List ℕ) (n : ℕ) → Spans stop s n → n < length s → parts stop s ≡ take n s ∷ parts stop (drop (n + 1) s)
   parts-span s n sp lt =
       let whole : s ≡ take n s ++ (stop ∷ drop (n + 1) s) =
-          sym (take-append-drop n s) ∙ ap (λ l. take n s ++ l) (drop-cons s n 0 lt ∙ rw add-one (ap (λ b. b ∷ drop (suc n) s) (sp .stops lt))) in
+      sym (take-append-drop n s) ∙ ap (λ l. take n s ++ l) (drop-cons s n 0 lt ∙ rw add-one (ap (λ b. b ∷ drop (suc n) s) (sp .stops lt))) in
       ap (parts stop) whole ∙ parts-first (take n s) (drop (n + 1) s) (span-free s n sp)
 
   pub parts-last : (s : List ℕ) (n : ℕ) → Spans stop s n → length s ≤ n → parts stop s ≡ take n s ∷ []
@@ -112,10 +113,10 @@ no-word rest after n e sp none w tail is stop e′ =
 -- where they are one
 pub one-word : (rest after : List ℕ) (n : ℕ) (t : Token) → rest ≡ 32 ∷ after → Spans 32 after n → Tells (take n after) t → Cut rest t (drop n after)
 one-word rest after n t e sp told = record {
-    whole = e ∙ ap (λ l. 32 ∷ l) (sym (take-append-drop n after) ∙ ap (λ l. l ++ drop n after) (sym (told .same)));
-    kind = told .kind;
-    stop = λ lt. getD-drop n after 0 0 ∙ ap (λ k. getD after k 0) (add-zero n) ∙ sp .stops (omega (arith, length-drop n after));
-  }
+  whole = e ∙ ap (λ l. 32 ∷ l) (sym (take-append-drop n after) ∙ ap (λ l. l ++ drop n after) (sym (told .same)));
+  kind = told .kind;
+  stop = λ lt. getD-drop n after 0 0 ∙ ap (λ k. getD after k 0) (add-zero n) ∙ sp .stops (omega (arith, length-drop n after));
+}
 
 -- one space more is passed
 pub past-more : (rest : List ℕ) (n i : ℕ) (ps : List (List ℕ)) → Spans 32 rest n → n < length rest → parts 32 rest ≡ drop i ps → parts 32 (drop (n + 1) rest) ≡ drop (i + 1) ps

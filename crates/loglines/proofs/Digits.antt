@@ -37,15 +37,15 @@ value-below s i k h le ik =
 -- a number of at most 19 digits is written by a number word
 pub numeral-decimal : (n : ℕ) → Short n → Numeral (decimal n)
 numeral-decimal n h = record {
-    digits = digits-decimal own n (omega arith);
-    some = decimal-some n (omega arith);
-    fits = length-decimal-le 19 n (omega arith) h (omega arith);
-    lean = λ e.
+  digits = digits-decimal own n (omega arith);
+  some = decimal-some n (omega arith);
+  fits = length-decimal-le 19 n (omega arith) h (omega arith);
+  lean = λ e.
       ⊎-elim
       (λ lt. absurd (omega (arith, first-decimal n lt (omega arith))))
       (λ le. let z : n ≡ 0 = omega arith in ap (λ k. length (decimal k)) z ∙ ap length (decimal-digit 0 (omega arith)))
       (order 0 n);
-  }
+}
 
 -- and a number word is what its number is written as
 pub decimal-numeral : (s : List ℕ) → Numeral s → Short (value 10 s) × (s ≡ decimal (value 10 s))

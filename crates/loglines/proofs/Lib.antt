@@ -3,3 +3,5 @@ pub mod Cuts
 pub mod Spellings
 pub mod Fronts
 pub mod Commands
+pub mod Feeds
+pub mod States

@@ -3,3 +3,5 @@ pub mod Spans
 pub mod Words
 pub mod Text
 pub mod Readers
+pub mod Lines
+pub mod Readings

@@ -3,6 +3,7 @@ ghost use mathlib.Core.List.{_∷_};
 ghost use Rattle.std.specs.Results.{Cases};
 ghost use Rattle.loglines.specs.Text.{text-of, Form, Asks, One-command};
 ghost use Rattle.loglines.specs.Readers.{Whole};
+ghost use Rattle.loglines.specs.Readings.{Sized, Reads};
 use crate::command::Command;
 use crate::fault::LogFault;
 use crate::value::LetterWord;
@@ -60,4 +61,24 @@ pub fn read(line: &[u8], opened: bool) -> Result<Command, LogFault>
         Some(c) => Ok(c),
         None => Err(LogFault::Form),
     }
+}
+
+// What a line asks for, or why it is refused.
+pub type Reading = Result<Command, LogFault>;
+
+// The command, unless it opens a sheet outside 2 to 11 units.
+fn sized(command: Command) -> Result<Command, LogFault>
+    ensures { λ r. ⌜ Cases r (λ c. (c ≡ command) × Sized command) (λ f. (f ≡ LogFault.Size) × (Sized command → ⊥)) ⌝ }
+{
+    match command {
+        Command::Open { units } if units < 2 || units > 11 => Err(LogFault::Size),
+        _ => Ok(command),
+    }
+}
+
+// What a line asks for, its form tested first and then the number of units that it opens.
+pub fn read_line(line: &[u8], opened: bool) -> Reading
+    ensures { λ r. ⌜ Reads opened (now (line .entry)) r ⌝ }
+{
+    sized(read(line, opened)?)
 }

@@ -12,9 +12,9 @@ returns-then-line-gt-LONGEST-LINE c = record { form = (refl, λ d f. omega (arit
 
 pub returns-in-rest : need.returns-in-rest
 returns-in-rest c = record {
-    form = (refl, λ d f. let none : length (c .args .line .now) ≡ 0 = search needs in omega (arith, ap length (f .text), text-some d));
-    one = one-command;
-  }
+  form = (refl, λ d f. let none : length (c .args .line .now) ≡ 0 = search needs in omega (arith, ap length (f .text), text-some d));
+  one = one-command;
+}
 
 pub returns-in-Some : need.returns-in-Some
 returns-in-Some c =

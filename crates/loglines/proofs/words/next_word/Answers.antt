@@ -14,13 +14,15 @@ returns-in-Break-token c =
     let space : getD (c .args .rest .now) 0 0 ≡ 32 = search needs in
     rw (c .from-residual .ensures)
     (no-word _ _ (c .span .result) (first-rest _ 0 some ∙ ap (λ b. b ∷ take (length (c .args .rest .now) - 1) (drop 1 (c .args .rest .now))) space)
-     (c .span .ensures) (λ w. c .in-Break-token .ensures tt (subst IsWord (sym (c .split-at .ensures .front)) w)))
+    (c .span .ensures) (λ w. c .in-Break-token .ensures tt (subst IsWord (sym (c .split-at .ensures .front)) w)))
 
 pub returns : need.returns
 returns c =
     let some : 0 < length (c .args .rest .now) = search needs in
     let space : getD (c .args .rest .now) 0 0 ≡ 32 = search needs in
     let after = take (length (c .args .rest .now) - 1) (drop 1 (c .args .rest .now)) in
-    let told = subst (λ s. Tells s (c .in-Continue-token .token)) (c .split-at .ensures .front) (c .in-Continue-token .ensures tt) in
-    (subst (Cut _ _) (sym (c .split-at .ensures .back))
-     (one-word _ after (c .span .result) _ (first-rest _ 0 some ∙ ap (λ b. b ∷ after) space) (c .span .ensures) told), refl)
+    let told = subst (λ s. Tells s (c .in-Continue-token .token)) (c .split-at .ensures .front) (c .in-Continue-token .ensures tt) in (
+      subst (Cut _ _) (sym (c .split-at .ensures .back))
+          (one-word _ after (c .span .result) _ (first-rest _ 0 some ∙ ap (λ b. b ∷ after) space) (c .span .ensures) told),
+      refl,
+    )
