@@ -1,12 +1,12 @@
 // What a pair's last word writes: how unlike the two units are, or that nobody compared them.
-#[derive(Clone, Copy)]
+#[derive(Clone, Copy, PartialEq, Eq, Debug)]
 pub enum Mark {
     Number(u64),
     Gap,
 }
 
 // The letter by which a line names a yardstick: S, G or T.
-#[derive(Clone, Copy)]
+#[derive(Clone, Copy, PartialEq, Eq, Debug)]
 pub enum YardstickLetter {
     Spread,
     Gradient,
@@ -14,7 +14,7 @@ pub enum YardstickLetter {
 }
 
 // What a line asks for. Numbers and labels are those of the text, whether or not a sheet takes them.
-#[derive(Clone, Copy)]
+#[derive(Clone, Copy, PartialEq, Eq, Debug)]
 pub enum Command {
     // U n: open a sheet of n units
     Open { units: u64 },

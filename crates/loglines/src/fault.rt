@@ -5,7 +5,7 @@ use std::alloc::AllocError;
 use std::alloc::Refused;
 
 // Why this layer refuses a line or a log.
-#[derive(Clone, Copy)]
+#[derive(Clone, Copy, PartialEq, Eq, Debug)]
 pub enum LogFault {
     // an opening outside 2 to 11 units
     Size,
@@ -28,7 +28,7 @@ impl LogFault {
 }
 
 // Why a whole log is not read: it is refused, or there is no memory for its lines.
-#[derive(Clone, Copy)]
+#[derive(Clone, Copy, PartialEq, Eq, Debug)]
 pub enum LogError {
     Refused(LogFault),
     NoMemory,
