@@ -99,7 +99,7 @@ module _ (stop : ℕ) where
 pub word-free : (w : List ℕ) → IsWord w → Free 32 w
 word-free w (inl c) i lt e = let one = c .one in let z : i ≡ 0 = omega arith in omega (arith, c .is, ap (λ k. getD w k 0) z)
 word-free w (inr (inl d)) i lt e = omega (arith, d .digits i lt)
-word-free w (inr (inr h)) i lt e = let one = h .one in let z : i ≡ 0 = omega arith in omega (arith, h .is, ap (λ k. getD w k 0) z)
+word-free w (inr (inr h)) i lt e = let z : i ≡ 0 = omega (arith, ap length h) in omega (arith, ap (λ l. getD l 0 0) h, ap (λ k. getD w k 0) z)
 
 -- where the bytes up to the next space are no word
 pub no-word : (rest after : List ℕ) (n : ℕ) → rest ≡ 32 ∷ after → Spans 32 after n → (IsWord (take n after) → ⊥) → NoWord rest
@@ -134,4 +134,4 @@ part-here line rest place n e sp =
 pub empty-no-word : IsWord [] → ⊥
 empty-no-word (inl c) = omega (arith, c .one)
 empty-no-word (inr (inl d)) = omega (arith, d .some)
-empty-no-word (inr (inr h)) = omega (arith, h .one)
+empty-no-word (inr (inr h)) = omega (arith, ap length h)

@@ -36,7 +36,7 @@ dash-no-decimal n h e = omega (arith, digits-decimal own n h 0 (decimal-some n h
 
 pub mark-word-is : (m : Mark) → OfMark Short m → IsWord (mark-word m)
 mark-word-is (Number d) h = inr (inl (numeral-decimal d h))
-mark-word-is Gap h = inr (inr (record { one = refl; is = refl }))
+mark-word-is Gap h = inr (inr refl)
 
 pub mark-same : (x y : Mark) → OfMark (λ n. n < 2 ^ 64) x → OfMark (λ n. n < 2 ^ 64) y → mark-word x ≡ mark-word y → x ≡ y
 mark-same (Number d) (Number e) hd he p = ap Number (same-from-decimal d e hd he p)
@@ -50,7 +50,7 @@ decimal-free n h i lt e = omega (arith, digits-decimal own n h i lt)
 
 pub mark-free : (m : Mark) → OfMark (λ n. n < 2 ^ 64) m → Free 32 (mark-word m)
 mark-free (Number d) h = decimal-free d h
-mark-free Gap h = word-free (mark-word Gap) (inr (inr (record { one = refl; is = refl })))
+mark-free Gap h = word-free (mark-word Gap) (inr (inr refl))
 
 pub letter-free : (y : YardstickLetter) → Free 32 (letter-word y)
 letter-free y i lt e = grind arith
@@ -74,4 +74,4 @@ letter-no-mark s h Gap small e = omega (arith, h .is, ap (λ l. getD l 0 0) e)
 pub digits-only : (t : Token) → Kind t → ((s : _) → t ≡ token.Digits s → ⊥) → (n : ℕ) → Short n → bytes t ≡ decimal n → ⊥
 digits-only (token.Letter s) k not n small e = letter-no-mark (s .now) k (Number n) small e
 digits-only (token.Digits s) k not n small e = not s refl
-digits-only (token.Dash s) k not n small e = dash-no-decimal n (short-fits n small) (sym e ∙ single (s .now) 45 (k .one) (k .is))
+digits-only (token.Dash s) k not n small e = dash-no-decimal n (short-fits n small) (sym e ∙ k)

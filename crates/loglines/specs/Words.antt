@@ -4,6 +4,7 @@ use mathlib.Core.Logic.{_⊎_}
 use mathlib.Core.List.{List, [], _∷_, _++_}
 use Prim.Native.Nat.{ℕ, _≤_, _<_}
 use lib.ListN.{length, getD}
+use lib.Chars.{codes}
 use Rattle.std.specs.Text.{In}
 use Rattle.loglines.specs.declared.token.Token.{Token}
 use Rattle.loglines.specs.declared.token.Token.the-variants as token
@@ -32,9 +33,8 @@ pub record Capital (s : List ℕ) : Type 0 where
   pub is : In 65 90 (getD s 0 0)
 
 -- the word `-`
-pub record Hyphen (s : List ℕ) : Type 0 where
-  pub one : length s ≡ 1
-  pub is : getD s 0 0 ≡ 45
+abbrev pub Hyphen : List ℕ → Type 0
+Hyphen s = s ≡ codes "-"
 
 abbrev pub IsWord : List ℕ → Type 0
 IsWord s = Capital s ⊎ Numeral s ⊎ Hyphen s

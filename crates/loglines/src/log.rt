@@ -7,6 +7,7 @@ ghost use Rattle.std.specs.Options.{Cases as BySome};
 ghost use Rattle.std.specs.Results.{Cases};
 ghost use Rattle.std.specs.Of.Vec.{vec-items};
 ghost use Rattle.loglines.specs.Lines.{First, Lines, Uncut, One-cut, texts};
+ghost use Rattle.loglines.specs.Text.{One-command};
 ghost use Rattle.loglines.specs.Readings.{open-after, Readings, LogRead, One-reading};
 ghost use Rattle.std.specs.Vec.{made};
 use crate::command::Command;
@@ -40,8 +41,7 @@ fn next_line(rest: &[u8]) -> Option<(&[u8], &[u8])>
 // The lines of an input of at most 32,768 bytes, without their line feeds.
 // A last line that has no line feed counts if it has a byte.
 pub fn lines<'a>(heap: Global, input: &'a [u8]) -> Result<Vec<&'a [u8]>, LogError>
-    ensures cut { λ r. ⌜ Cases r (λ v. (length (now (input .entry)) ≤ 32768) × Lines (now (input .entry)) (texts (vec-items v))) (λ e. Uncut (now (input .entry)) e) ⌝ }
-    ensures one { λ _. ⌜ One-cut ⌝ }
+    ensures { λ r. ⌜ Cases r (λ v. (length (now (input .entry)) ≤ 32768) × Lines (now (input .entry)) (texts (vec-items v))) (λ e. Uncut (now (input .entry)) e) ⌝ }
 {
     if input.len() > LONGEST_LOG {
         return Err(LogError::Refused(LogFault::Long));
@@ -82,7 +82,9 @@ fn read_lines(heap: Global, lines: &[&[u8]]) -> Result<Vec<Reading>, AllocError>
 // What the lines of a whole log ask for, one reading for each line.
 pub fn read_log(heap: Global, input: &[u8]) -> Result<Vec<Reading>, LogError>
     ensures read { λ r. ⌜ Cases r (λ v. LogRead (now (input .entry)) (vec-items v)) (λ e. Uncut (now (input .entry)) e) ⌝ }
-    ensures one { λ _. ⌜ One-reading ⌝ }
+    ensures one_command { λ _. ⌜ One-command ⌝ }
+    ensures one_cut { λ _. ⌜ One-cut ⌝ }
+    ensures one_reading { λ _. ⌜ One-reading ⌝ }
 {
     let lines = lines(heap, input)?;
     Ok(read_lines(heap, lines.as_slice())?)

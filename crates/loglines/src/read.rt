@@ -1,7 +1,7 @@
 ghost use mathlib.Core.Path.{_≡_};
 ghost use mathlib.Core.List.{_∷_};
 ghost use Rattle.std.specs.Results.{Cases};
-ghost use Rattle.loglines.specs.Text.{text-of, Form, Asks, One-command};
+ghost use Rattle.loglines.specs.Text.{text-of, Form, Asks};
 ghost use Rattle.loglines.specs.Readers.{Whole};
 ghost use Rattle.loglines.specs.Readings.{Sized, Reads};
 use crate::command::Command;
@@ -48,8 +48,7 @@ fn command(letter: u8, words: &[u8], opened: bool) -> Option<Command>
 
 // What a line asks for, in a session that has a sheet or has none.
 pub fn read(line: &[u8], opened: bool) -> Result<Command, LogFault>
-    ensures form { λ r. ⌜ Cases r (λ c. Form (now (line .entry)) opened c) (λ f. (f ≡ LogFault.Form) × ((c : Command) → Form (now (line .entry)) opened c → ⊥)) ⌝ }
-    ensures one { λ _. ⌜ One-command ⌝ }
+    ensures { λ r. ⌜ Cases r (λ c. Form (now (line .entry)) opened c) (λ f. (f ≡ LogFault.Form) × ((c : Command) → Form (now (line .entry)) opened c → ⊥)) ⌝ }
 {
     if line.len() > LONGEST_LINE {
         return Err(LogFault::Form);

@@ -1,11 +1,10 @@
-use borrow.Author.Needs.{needs}
 use native.Mathlib.Omega.{arith}
 use mathlib.Core.Path.{sym, ap, subst, _∙_}
 use Rattle.std.specs.Results.{isOk}
 use Rattle.std.specs.Of.Vec.{vec-items}
 use Rattle.std.proofs.Told.{chosen}
 use Rattle.loglines.specs.Lines.{texts}
-use Rattle.loglines.proofs.Feeds.{Sofar, first-less, one-more, texts-snoc, all-cut, one-cut}
+use Rattle.loglines.proofs.Feeds.{Sofar, first-less, one-more, texts-snoc, all-cut}
 use Rattle.loglines.proofs.log.lines.Needs as need
 
 pub loop-line-less : need.loop-line-less
@@ -17,11 +16,5 @@ loop-line-again c =
     subst (λ l. Sofar (c .args .input .now) l (c .in-Some .tail .now)) (sym (ap texts pushed ∙ texts-snoc _ _))
     (one-more _ _ _ _ _ (c .loop-line .inv) (c .in-Some .ensures tt))
 
-pub returns-then-input-gt-LONGEST-LOG : need.returns-then-input-gt-LONGEST-LOG
-returns-then-input-gt-LONGEST-LOG c = record { cut = omega arith; one = one-cut }
-
-pub returns-in-Break-push : need.returns-in-Break-push
-returns-in-Break-push c = record { cut = search needs; one = one-cut }
-
 pub returns : need.returns
-returns c = record { cut = (omega arith, all-cut _ _ _ (c .loop-line .inv) (c .in-rest .ensures tt)); one = one-cut }
+returns c = (omega arith, all-cut _ _ _ (c .loop-line .inv) (c .in-rest .ensures tt))
