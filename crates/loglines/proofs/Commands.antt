@@ -1,19 +1,25 @@
 -- The texts of commands: the letter tells the kind, and the words tell the rest.
-use mathlib.Core.Path.{_≡_, sym, ap, subst, _∙_}
+use mathlib.Core.Path.{_≡_, refl, sym, ap, subst, _∙_}
 use mathlib.Core.Bool.{Bool}
-use mathlib.Core.List.{List, _∷_, _++_}
-use Prim.Native.Nat.{ℕ, _<_, _^_}
+use mathlib.Core.List.{List, _∷_}
+use Prim.Native.Nat.{ℕ, _≤_, _<_, _^_}
 use native.Mathlib.Omega.{arith}
-use borrow.Author.Needs.{needs}
 use lib.ListN.{length, drop}
 use Rattle.std.specs.Written.{decimal}
+use Rattle.std.specs.Options.{okOr}
+use Rattle.std.specs.Results.{Cases}
+use Rattle.std.specs.declared.option.Option.{Option}
+use Rattle.std.specs.declared.option.Option.the-variants.{Some, None}
+use Rattle.std.specs.declared.result.Result.{Result}
 use Rattle.std.proofs.shelf.Decimals.{same-from-decimal}
 use Rattle.loglines.specs.declared.command.Mark.{Mark}
 use Rattle.loglines.specs.declared.command.YardstickLetter.{YardstickLetter}
 use Rattle.loglines.specs.declared.command.Command.{Command}
 use Rattle.loglines.specs.declared.command.Command.the-variants.{Open, Pair, Tie, Untie, Rank}
-use Rattle.loglines.specs.Text.{text-of, mark-word, letter-word, spaced, Short, OfMark, Numbers, Asks, One-command}
-use Rattle.loglines.specs.Readers.{Front, Both, two-words}
+use Rattle.loglines.specs.declared.fault.LogFault.{LogFault}
+use Rattle.loglines.specs.declared.fault.LogFault.the-variants as fault
+use Rattle.loglines.specs.Text.{text-of, mark-word, letter-word, Short, OfMark, Numbers, Asks, Form, One-command}
+use Rattle.loglines.specs.Readers.{Whole, Front, Both, two-words}
 use Rattle.loglines.proofs.Spellings.{short-fits, decimal-free, mark-free, mark-same, letter-free, letter-same}
 use Rattle.loglines.proofs.Fronts.{Telling, last-same, after-first, first-same, two-same}
 
@@ -108,3 +114,11 @@ module _ (letter : ℕ) (words : List ℕ) (opened : Bool) where
   no-rank is none c asks e =
       let q = only-rank c words (with-letter 82 c is e) in
       none (q .0, q .1) (tt, subst (Numbers Short) (q .2) (asks .0)) (ap (drop 1) (e ∙ ap text-of (q .2)))
+
+-- a line by its letter and its words
+pub line-read : (line : List ℕ) (letter : ℕ) (words : List ℕ) (opened : Bool) (o : Option Command) (r : Result Command LogFault)
+    → line ≡ letter ∷ words → length line ≤ 64 → Whole text-of (Asks opened) (letter ∷ words) o → r ≡ okOr o fault.Form
+    → Cases r (λ c. Form line opened c) (λ f. (f ≡ fault.Form) × ((c : Command) → Form line opened c → ⊥))
+line-read line letter words opened (Some c) r e short h is =
+    rw is (record { text = e ∙ h .1; short = short; numbers = h .0 .0; state = h .0 .1 })
+line-read line letter words opened None r e short h is = rw is (refl, λ d f. h d (f .numbers, f .state) (sym e ∙ f .text))

@@ -1,7 +1,7 @@
 -- Where a text is cut at a byte, and that it is cut so in one way.
 use mathlib.Core.Path.{_≡_, refl, sym, ap, subst, _∙_}
 use mathlib.Core.Logic.{inl, inr, ⊎-elim}
-use mathlib.Core.Bool.{Bool, true, false, cond}
+use mathlib.Core.Bool.{true, false}
 use mathlib.Core.List.{List, [], _∷_, _++_}
 use Prim.Native.Nat.{ℕ, suc, _+_, _-_, _≤_, _<_}
 use native.Mathlib.Nat.{add-zero}
@@ -14,7 +14,7 @@ use lib.Seq.{getD-take, getD-drop, getD-append-add, take-append-seam, drop-appen
 use Rattle.std.proofs.shelf.Lists.{getD-append-left, drop-drop}
 use Rattle.std.proofs.str.Laws.{order}
 use Rattle.loglines.specs.declared.token.Token.{Token}
-use Rattle.loglines.specs.Spans.{Spans, Free, Stopped, onto-first, parts}
+use Rattle.loglines.specs.Spans.{Spans, Free, Stopped, parts}
 use Rattle.loglines.specs.Words.{IsWord, Tells, Cut, NoWord, part-at}
 
 -- the first byte of what follows w

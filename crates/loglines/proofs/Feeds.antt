@@ -7,7 +7,7 @@ use native.Mathlib.Numerals.{add-one}
 use native.Mathlib.Omega.{arith}
 use denote.Ref.{RefT}
 use lib.ListN.{length, getD, take, drop, length-append, take-append-drop}
-use lib.Seq.{length-take-le, getD-append-add, drop-cons, take-all}
+use lib.Seq.{getD-append-add, drop-cons, take-all}
 use Rattle.std.specs.Vec.{Every}
 use Rattle.std.proofs.Told.{every-snoc}
 use Rattle.loglines.specs.Spans.{Spans, Free}

@@ -5,10 +5,10 @@ use Prim.Native.Nat.{ℕ, _<_}
 use native.Mathlib.Omega.{arith}
 use lib.ListN.{length}
 use Rattle.loglines.specs.declared.token.Token.{Token}
-use Rattle.loglines.specs.Spans.{Free, Stopped}
+use Rattle.loglines.specs.Spans.{Free}
 use Rattle.loglines.specs.Words.{bytes, IsWord, Cut, NoWord}
 use Rattle.loglines.specs.Text.{spaced}
-use Rattle.loglines.specs.Readers.{Front, NoFront, Both, two-words}
+use Rattle.loglines.specs.Readers.{Front, NoFront}
 use Rattle.loglines.proofs.Cuts.{word-free, cut-unique}
 use Rattle.loglines.proofs.Spellings.{token-word}
 

@@ -14,7 +14,7 @@ use Rattle.loglines.specs.declared.command.Mark.{Mark}
 use Rattle.loglines.specs.declared.command.Mark.the-variants.{Number, Gap}
 use Rattle.loglines.specs.declared.command.YardstickLetter.{YardstickLetter}
 use Rattle.loglines.specs.Spans.{Free}
-use Rattle.loglines.specs.Words.{bytes, Kind, IsWord, Capital, Numeral, Hyphen}
+use Rattle.loglines.specs.Words.{bytes, Kind, IsWord, Capital}
 use Rattle.loglines.specs.Text.{mark-word, letter-word, Short, OfMark}
 use Rattle.loglines.proofs.Cuts.{word-free}
 use Rattle.loglines.proofs.Digits.{own, numeral-decimal}

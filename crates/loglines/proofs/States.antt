@@ -12,7 +12,7 @@ use Rattle.loglines.specs.declared.command.Command.the-variants.{Open, Pair, T
 use Rattle.loglines.specs.declared.fault.LogFault.the-variants as fault
 use Rattle.loglines.specs.Text.{Form, Numbers, Short}
 use Rattle.loglines.specs.Lines.{texts}
-use Rattle.loglines.specs.Readings.{Reading, Sized, Reads, open-after, Readings, LogRead, One-reading}
+use Rattle.loglines.specs.Readings.{Reading, Sized, Reads, open-after, Readings, One-reading}
 use Rattle.loglines.proofs.Spellings.{short-fits, mark-fits}
 use Rattle.loglines.proofs.Commands.{one-command}
 use Rattle.loglines.proofs.Feeds.{texts-snoc, one-cut}

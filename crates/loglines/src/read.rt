@@ -56,10 +56,7 @@ pub fn read(line: &[u8], opened: bool) -> Result<Command, LogFault>
     let [letter, words @ ..] = line else {
         return Err(LogFault::Form);
     };
-    match command(*letter, words, opened) {
-        Some(c) => Ok(c),
-        None => Err(LogFault::Form),
-    }
+    command(*letter, words, opened).ok_or(LogFault::Form)
 }
 
 // What a line asks for, or why it is refused.

@@ -1,7 +1,7 @@
 -- A report is listed line by line, and a log has one report.
 use mathlib.Core.Path.{_≡_, refl, sym, ap, subst, _∙_}
 use mathlib.Core.Logic.{inl, inr}
-use mathlib.Core.List.{List, [], _∷_, _++_, append-assoc, append-nil}
+use mathlib.Core.List.{List, [], _∷_, _++_, append-assoc}
 use Prim.Native.Nat.{ℕ, suc, _+_, _<_}
 use native.Mathlib.Omega.{arith}
 use lib.ListN.{length, getD, take}
@@ -18,7 +18,7 @@ use Rattle.std.specs.Written.{decimal}
 use Rattle.logreport.specs.declared.count.Kind.{Kind}
 use Rattle.logreport.specs.Counts.{kind-words, count-of}
 use Rattle.logreport.specs.Said.{said}
-use Rattle.logreport.specs.Reports.{listing, totals, summary, refusal, Reported, One-report}
+use Rattle.logreport.specs.Reports.{listing, totals, summary, refusal, One-report}
 
 listing-push : (n : ℕ) (rs : List Reading) (r : Reading) → listing n (rs ++ (r ∷ [])) ≡ listing n rs ++ (said (n + length rs) r ++ (10 ∷ []))
 listing-push n [] r = ap (λ k. said k r ++ (10 ∷ [])) (omega arith)

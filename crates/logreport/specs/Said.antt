@@ -1,6 +1,6 @@
 -- What a report says of each line, in plain words.
-use mathlib.Core.List.{List, [], _∷_, _++_}
-use Prim.Native.Nat.{ℕ, suc}
+use mathlib.Core.List.{List, _++_}
+use Prim.Native.Nat.{ℕ}
 use lib.Chars.{codes}
 use Rattle.std.specs.Written.{decimal}
 use Rattle.std.specs.declared.result.Result.the-variants.{Ok, Err}
@@ -9,7 +9,6 @@ use Rattle.loglines.specs.declared.command.YardstickLetter.{YardstickLetter}
 use Rattle.loglines.specs.declared.command.YardstickLetter.the-variants.{Spread, Gradient, Target}
 use Rattle.loglines.specs.declared.command.Command.{Command}
 use Rattle.loglines.specs.declared.command.Command.the-variants.{Open, Pair, Tie, Untie, Rank}
-use Rattle.loglines.specs.declared.fault.LogFault.{LogFault}
 use Rattle.loglines.specs.Faults.{number-of}
 use Rattle.loglines.specs.Readings.{Reading}
 

@@ -2,8 +2,6 @@ ghost use mathlib.Core.Path.{_≡_};
 ghost use Rattle.std.specs.Of.String.{string-bytes};
 ghost use Rattle.std.specs.Vec.{made};
 ghost use mathlib.Core.List.{_++_};
-ghost use Prim.Native.Nat.{_≤_};
-ghost use lib.ListN.{length};
 ghost use Rattle.logreport.specs.Counts.{Each-once};
 ghost use Rattle.logreport.specs.Reports.{listing, totals, summary, refusal, Reported, One-report};
 use crate::count::Kind;

@@ -1,5 +1,5 @@
 ghost use Rattle.std.specs.declared.option.Option.the-variants.{Some};
-ghost use Rattle.logreport.specs.Said.{yardstick-name, asked, outcome, said};
+ghost use Rattle.logreport.specs.Said.{yardstick-name, asked, said};
 use loglines::command::Command;
 use loglines::command::Mark;
 use loglines::command::YardstickLetter;

@@ -1,7 +1,6 @@
 use native.Mathlib.Omega.{arith}
 use mathlib.Core.Path.{sym, ap, subst, _∙_}
 use Rattle.std.specs.Results.{isOk}
-use Rattle.std.specs.Of.Vec.{vec-items}
 use Rattle.std.proofs.Told.{chosen}
 use Rattle.loglines.specs.Lines.{texts}
 use Rattle.loglines.proofs.Feeds.{Sofar, first-less, one-more, texts-snoc, all-cut}

@@ -1,6 +1,5 @@
 use borrow.Author.Needs.{needs}
-use mathlib.Core.Path.{_≡_, ap, _∙_}
-use mathlib.Core.List.{[], _∷_}
+use mathlib.Core.Path.{ap, _∙_}
 use Rattle.loglines.specs.Words.{bytes}
 use Rattle.loglines.proofs.Spellings.{single}
 use Rattle.loglines.proofs.value.LetterWord.from_token.Needs as need
