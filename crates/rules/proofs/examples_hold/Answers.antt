@@ -1,0 +1,29 @@
+use mathlib.Core.Path.{refl}
+use Rattle.rules.proofs.examples_hold.Needs as need
+
+pub returns : need.returns
+returns c = (
+  ((refl, refl), ((refl, refl), (refl, refl))),
+  (
+    (refl, refl),
+    (
+      ((refl, refl), refl),
+      (
+        ((refl, refl), refl),
+        (
+          (refl, refl),
+          (
+            ((refl, refl), (refl, refl)),
+            (
+              ((refl, refl), ((refl, refl), ((refl, refl), (refl, refl)))),
+              (
+                (refl, refl),
+                tt,
+              ),
+            ),
+          ),
+        ),
+      ),
+    ),
+  ),
+)

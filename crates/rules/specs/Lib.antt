@@ -1,0 +1,13 @@
+pub mod Units
+pub mod Sheets
+pub mod Yardsticks
+pub mod Orders
+pub mod Ranking
+pub mod Scaling
+pub mod Pattern
+pub mod Moves
+pub mod Calls
+pub mod Runs
+pub mod Recurrence
+pub mod Theorems
+pub mod Examples
