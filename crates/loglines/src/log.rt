@@ -24,8 +24,8 @@ use std::alloc::Global;
 // The longest log that is read.
 pub const LONGEST_LOG: usize = 32768;
 
-// The first line of `rest` without its line feed, and what follows it.
-fn next_line(rest: &[u8]) -> Option<(&[u8], &[u8])>
+// The first line of `rest` without its line feed, and what follows it; none where nothing is left.
+pub fn next_line(rest: &[u8]) -> Option<(&[u8], &[u8])>
     ensures { λ r. ⌜ BySome r (now (rest .entry) ≡ []) (λ p. First (now (rest .entry)) (now (p .0)) (now (p .1))) ⌝ }
 {
     if rest.is_empty() {
