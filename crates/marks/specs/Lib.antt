@@ -1,0 +1,4 @@
+pub mod Cells
+pub mod Numbers
+pub mod TieSets
+pub mod Tied

@@ -1,0 +1,5 @@
+// Tests of marks, ties and rows.
+#[cfg(test)]
+mod numbers;
+#[cfg(test)]
+mod rows;

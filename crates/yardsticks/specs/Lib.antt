@@ -1,0 +1,4 @@
+pub mod Merits
+pub mod Members
+pub mod Gradients
+pub mod Totals
