@@ -1,11 +1,10 @@
 -- The tests of a size and of a row say what they should: `is_order` that it is an order, `keeps` that it keeps the ties.
 use Rattle.std.proofs.Common.{◌≡◌, ℕ, zero, suc, ◌<◌, ◌≤◌, Bool, true, false, not, ◌&&◌, eqb, List, [], ◌∷◌, length, get_or, sym, refl, ◌∙◌, subst, inl, inr, arith}
 use Rattle.std.specs.List.{list_all}
-use Rattle.std.specs.Map.Invariant.{is-distinct}
 use Rattle.std.proofs.lemmas.Bool.{both_ways, not-true, not_from_false, and_parts, and_from, eqb-true, eqb-false, eq-eqb, ne_eqb, cases_lt, cases_order}
 use Rattle.std.proofs.lemmas.Bool.Decides.{nat_tests}
 use Rattle.rules.specs.Units.{label, has}
-use Rattle.rules.specs.Orders.{Order, Keeps, is_order, keeps}
+use Rattle.rules.specs.Orders.{Order, Keeps, is_distinct, is_order, keeps}
 use Rattle.rules.specs.Recurrence.{OnLabels}
 use Rattle.rules.specs.Theorems.{Opens, RowTestsMean}
 use Rattle.rules.proofs.Tests.{refuted}
@@ -14,18 +13,18 @@ use Rattle.rules.proofs.Members.{in_at, at_in, all_of_in, in_all_of}
 use Rattle.rules.proofs.Ways.{way_covers, order_way}
 
 -- no two places hold the same
-once_at : (o : List ℕ) → is-distinct eqb o ≡ true → (i k : ℕ) → i < k → k < length o → get_or o i 0 ≡ get_or o k 0 → ⊥
+once_at : (o : List ℕ) → is_distinct eqb o ≡ true → (i k : ℕ) → i < k → k < length o → get_or o i 0 ≡ get_or o k 0 → ⊥
 once_at [] h i k l m e = omega arith
 once_at (u ∷ us) h i zero l m e = omega arith
 once_at (u ∷ us) h zero (suc k) l m e =
     eqb-false u (get_or us k 0)
-    (not-true (eqb u (get_or us k 0)) (all_of_in (λ z. not (eqb u z)) us (and_parts (list_all (λ z. not (eqb u z)) us) (is-distinct eqb us) h).0 (get_or us k 0) (in_at us k 0 (omega arith)))) e
-once_at (u ∷ us) h (suc i) (suc k) l m e = once_at us (and_parts (list_all (λ z. not (eqb u z)) us) (is-distinct eqb us) h).1 i k (omega arith) (omega arith) e
+    (not-true (eqb u (get_or us k 0)) (all_of_in (λ z. not (eqb u z)) us (and_parts (list_all (λ z. not (eqb u z)) us) (is_distinct eqb us) h).0 (get_or us k 0) (in_at us k 0 (omega arith)))) e
+once_at (u ∷ us) h (suc i) (suc k) l m e = once_at us (and_parts (list_all (λ z. not (eqb u z)) us) (is_distinct eqb us) h).1 i k (omega arith) (omega arith) e
 
-at_once : (o : List ℕ) → ((i k : ℕ) → i < k → k < length o → get_or o i 0 ≡ get_or o k 0 → ⊥) → is-distinct eqb o ≡ true
+at_once : (o : List ℕ) → ((i k : ℕ) → i < k → k < length o → get_or o i 0 ≡ get_or o k 0 → ⊥) → is_distinct eqb o ≡ true
 at_once [] h = refl
 at_once (u ∷ us) h =
-    and_from (list_all (λ z. not (eqb u z)) us) (is-distinct eqb us)
+    and_from (list_all (λ z. not (eqb u z)) us) (is_distinct eqb us)
     (in_all_of (λ z. not (eqb u z)) us (λ z i. let w = at_in z us 0 i in
     not_from_false (eqb u z) (ne_eqb u z (λ e. h 0 (suc w.0) (omega arith) (omega (arith, w.1.0)) (e ∙ sym w.1.1)))))
     (at_once us (λ i k l m. h (suc i) (suc k) (omega arith) (omega arith)))
@@ -33,8 +32,8 @@ at_once (u ∷ us) h =
 -- a row that passes the test is an order, and an order passes it
 pub is_order_means : (n : ℕ) (o : List ℕ) → is_order n o ≡ true → Order n o
 is_order_means n o h =
-    let w = and_parts (eqb (length o) n) (list_all (label n) o && is-distinct eqb o) h in
-    let v = and_parts (list_all (label n) o) (is-distinct eqb o) w.1 in
+    let w = and_parts (eqb (length o) n) (list_all (label n) o && is_distinct eqb o) h in
+    let v = and_parts (list_all (label n) o) (is_distinct eqb o) w.1 in
     let long = eqb-true (length o) n w.0 in
     record {
       as_many = long;
@@ -48,8 +47,8 @@ is_order_means n o h =
 
 pub means_is_order : (n : ℕ) (o : List ℕ) → Order n o → is_order n o ≡ true
 means_is_order n o h =
-    and_from (eqb (length o) n) (list_all (label n) o && is-distinct eqb o) (eq-eqb (length o) n h.as_many)
-    (and_from (list_all (label n) o) (is-distinct eqb o)
+    and_from (eqb (length o) n) (list_all (label n) o && is_distinct eqb o) (eq-eqb (length o) n h.as_many)
+    (and_from (list_all (label n) o) (is_distinct eqb o)
     (in_all_of (label n) o (λ z i. let w = at_in z o 0 i in
     subst (λ (j : ℕ). label n j ≡ true) w.1.1 (h.in_range w.0 (omega (arith, w.1.0, h.as_many)))))
     (at_once o (λ i k l m e. let q = h.once i k (omega (arith, h.as_many)) (omega (arith, h.as_many)) e in omega arith)))

@@ -1,7 +1,6 @@
 -- Orders, the ties that they keep, label order, closed sets, and the ways to place what a set leaves.
 use Rattle.std.specs.Prelude.{◌≡◌, ℕ, zero, suc, ◌<◌, Bool, true, false, cond, not, ◌&&◌, ◌||◌, List, [], ◌∷◌, map, length, filter, ◌==◌, nat_eq, nat_lt, slice_index}
 use Rattle.std.specs.List.{flat_map, list_all}
-use Rattle.std.specs.Map.Invariant.{is-distinct}
 use Rattle.rules.specs.Units.{label, labels, has, with_unit}
 
 -- an order holds each label once
@@ -18,9 +17,14 @@ Before o a b = (i : ℕ) × ((k : ℕ) × ((i < k) × ((k < length o) × ((slice
 abbrev pub Keeps : (ℕ → ℕ → Bool) → List ℕ → Type 0
 Keeps tied o = (a b : ℕ) → tied a b ≡ true → Before o a b
 
+-- whether no two of some things are the same by eq
+abbrev pub is_distinct : {A : Type 0} → (A → A → Bool) → List A → Bool
+is_distinct eq [] = true
+is_distinct eq (x ∷ xs) = list_all (λ y. not (eq x y)) xs && is_distinct eq xs
+
 -- the test of an order: as many as labels, each a label, and none twice
 abbrev pub is_order : ℕ → List ℕ → Bool
-is_order n o = length o == n && (list_all (label n) o && is-distinct nat_eq o)
+is_order n o = length o == n && (list_all (label n) o && is_distinct nat_eq o)
 
 -- the test of the ties: nothing that stands at b or later is tied before b
 abbrev pub keeps : (ℕ → ℕ → Bool) → List ℕ → Bool

@@ -1,4 +1,6 @@
 // The rules of ordering units along a line. Each function's contract names one theorem on the rules.
+#![tactic(auto)]
+
 ghost use Rattle.rules.specs.Runs.{Promise};
 ghost use Rattle.rules.specs.Recurrence.{Recurrence, CellsMean, FewWays, NoCircle};
 ghost use Rattle.rules.specs.Theorems.{Opens, RowTestsMean, YardsticksLawful, MovesLawful, Improving, Line, Loss, Pattern, TiedPattern, Comparisons, Unbroken};
