@@ -1,4 +1,6 @@
 // The marks and ties of a sheet without gaps, and the tests of a row.
+#![tactic(auto)]
+
 mod labels;
 pub mod marks;
 pub mod rows;

@@ -1,7 +1,7 @@
 // The tests of a row of labels.
 ghost use Rattle.std.specs.Prelude.{◌≡◌, true, not, ◌↔◌, take, ◌==◌, nat_eq};
 ghost use Rattle.std.specs.List.{list_all};
-ghost use Rattle.std.specs.Map.Invariant.{is-distinct};
+ghost use Rattle.rules.specs.Orders.{is_distinct};
 ghost use Rattle.rules.specs.Units.{label};
 ghost use Rattle.rules.specs.Orders.{Order, is_order, keeps};
 ghost use Rattle.marks.specs.Tied.{tied_of, first_of, KeepsIf};
@@ -42,7 +42,7 @@ fn lacks(row: &[u8], a: u8) -> bool
 
 // Whether a row holds nothing twice.
 fn all_differ(row: &[u8]) -> bool
-    ensures { result ≡ is-distinct nat_eq row.now }
+    ensures { result ≡ is_distinct nat_eq row.now }
 {
     for (i, a) in row.iter().enumerate() {
         if !lacks(&row[i + 1..], *a) {

@@ -1,6 +1,6 @@
 use Rattle.std.proofs.Common.{◌≡◌, ℕ, ◌+◌, ◌-◌, Bool, not, eqb, List, length, get_or, take, drop, sym, refl, ap, ◌∙◌, arith}
 use Rattle.std.specs.List.{list_all}
-use Rattle.std.specs.Map.Invariant.{is-distinct}
+use Rattle.rules.specs.Orders.{is_distinct}
 use Rattle.std.proofs.lemmas.Slice.{between_to_end}
 use Rattle.marks.proofs.Scans.{passed, failed, ended}
 use Rattle.marks.proofs.rows.all_differ.Goals as goal
@@ -15,15 +15,15 @@ rest row i b e = sym (e ∙ ap (apart (get_or row i 0)) (between_to_end row (i +
 
 pub loop-i-preserved : goal.loop-i-preserved
 loop-i-preserved c =
-    passed (is-distinct eqb) apart refl (λ _ _. refl) c.args.row.now c.loop-i.i
+    passed (is_distinct eqb) apart refl (λ _ _. refl) c.args.row.now c.loop-i.i
     c.loop-i.invariant c.loop-i-test.true (rest c.args.row.now c.loop-i.i _ c.if-not-lacks.ensures)
 
 pub returns-then-not-lacks : goal.returns-then-not-lacks
 returns-then-not-lacks c =
-    failed (is-distinct eqb) apart refl (λ _ _. refl) c.args.row.now c.loop-i.i
+    failed (is_distinct eqb) apart refl (λ _ _. refl) c.args.row.now c.loop-i.i
     c.loop-i.invariant c.loop-i-test.true (rest c.args.row.now c.loop-i.i _ c.if-not-lacks.ensures)
 
 pub returns : goal.returns
 returns c =
-    ended (is-distinct eqb) apart refl (λ _ _. refl) c.args.row.now c.loop-i.i
+    ended (is_distinct eqb) apart refl (λ _ _. refl) c.args.row.now c.loop-i.i
     c.loop-i.invariant c.loop-i-test.false
