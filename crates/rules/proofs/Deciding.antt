@@ -1,13 +1,13 @@
 -- When a call is accepted, and what its refusal says.
 use Rattle.std.proofs.Common.{◌≡◌, ℕ, Bool, true, false, ◌⊎◌, List, [], ◌∷◌, ◌++◌, None, sym, refl, ap, ◌∙◌, subst, inl, inr, append-nil, arith}
-use Rattle.std.specs.List.{AllByRecursion as All}
+use Rattle.std.specs.List.{AllByRecursion}
 use Rattle.std.proofs.lemmas.Bool.{both_ways, cases_Bool, cond-false}
 use Rattle.rules.specs.Calls.{Refusal, Outcome, accepted, refused, is_accepted, decide}
 use Rattle.rules.specs.Runs.{refusal_in}
 
 -- none of the tests holds
 abbrev pub NoneHolds : List (Bool × Refusal) → Type 0
-NoneHolds ts = All (λ t. t.0 ≡ false) ts
+NoneHolds ts = AllByRecursion (λ t. t.0 ≡ false) ts
 
 pub none_parts : (ss ts : List (Bool × Refusal)) → NoneHolds (ss ++ ts) → NoneHolds ss × NoneHolds ts
 none_parts [] ts h = (tt, h)
@@ -40,7 +40,7 @@ module _ {X : Type 0} where
       (h, cc)
 
   -- a refusal by one test more than others: it is that of the last test exactly if the others pass
-  pub refused_last : (P : Refusal → Type 0) (ts : List (Bool × Refusal)) (t : Bool × Refusal) (x : X) (r : Refusal) → All (λ s. P s.1) ts
+  pub refused_last : (P : Refusal → Type 0) (ts : List (Bool × Refusal)) (t : Bool × Refusal) (x : X) (r : Refusal) → AllByRecursion (λ s. P s.1) ts
       → decide (ts ++ (t ∷ [])) x ≡ refused r
       → ((is_accepted (decide ts (tt {0})) ≡ false) × P r) ⊎ ((is_accepted (decide ts (tt {0})) ≡ true) × (r ≡ t.1))
   refused_last P [] t x r h e = elim (cases_Bool t.0) [

@@ -1,6 +1,6 @@
 -- What any list of calls leaves: marks and ties are by the last accepted calls, and a refused call changes nothing.
 use Rattle.std.proofs.Common.{◌≡◌, ℕ, ◌≤◌, Bool, true, false, cond, ◌&&◌, ◌||◌, eqb, ltb, ◌⊎◌, List, [], ◌∷◌, ◌++◌, map, ℤ, Some, None, Option, unwrap_or, refl, ap, ◌∙◌, subst, inl, inr, arith, lit≤}
-use Rattle.std.specs.List.{AllByRecursion as All}
+use Rattle.std.specs.List.{AllByRecursion}
 use Rattle.std.proofs.ByRecursion.{All-append}
 use Rattle.std.proofs.lemmas.Bool.{both_ways, not-false, eqb-true, ltb-false, cond_both, and_parts}
 use Rattle.rules.specs.declared.Mark.TheVariants.{Gap, Number}
@@ -28,11 +28,11 @@ module _ {A : Type 0} (f : Call → Option A) (d : A) where
       go None s r = r
       go (Some x) s r = s
 
-  last_none : (calls : List Call) → All (λ c. f c ≡ None) calls → last_said f d calls ≡ d
+  last_none : (calls : List Call) → AllByRecursion (λ c. f c ≡ None) calls → last_said f d calls ≡ d
   last_none [] h = refl
   last_none (c ∷ cs) h = rw h.0 (last_none cs h.1)
 
-  last_here : (later : List Call) (c : Call) (before : List Call) (x : A) → f c ≡ Some x → All (λ c. f c ≡ None) later
+  last_here : (later : List Call) (c : Call) (before : List Call) (x : A) → f c ≡ Some x → AllByRecursion (λ c. f c ≡ None) later
       → last_said f d (later ++ (c ∷ before)) ≡ x
   last_here [] c before x e h = rw e
   last_here (l ∷ later) c before x e h = rw h.0 (last_here later c before x e h.1)
@@ -189,12 +189,12 @@ list_stays o f n old r e = ap (λ (q : Outcome _). written q f n old) e
 abbrev NotNumber : Bool × Refusal → Type 0
 NotNumber t = t.1 ≡ number → ⊥
 
-gaps_not_number : (s : Contents) (qs : List (ℕ × ℕ)) → All NotNumber (map (gap_test s) qs)
+gaps_not_number : (s : Contents) (qs : List (ℕ × ℕ)) → AllByRecursion NotNumber (map (gap_test s) qs)
 gaps_not_number s [] = tt
 gaps_not_number s (q ∷ qs) = ((λ e. omega (arith, ap number_of e)), gaps_not_number s qs)
 
 module _ (s : Contents) (y : Merit) (k : ℕ) (totals : List (List ℤ)) (counts row : List ℕ) where
-  early : All NotNumber (rank_tests s totals counts row)
+  early : AllByRecursion NotNumber (rank_tests s totals counts row)
   early = (
     (λ e. omega (arith, ap number_of e)),
     All-append NotNumber (gap_tests s) ((circular s.tied s.units, circle) ∷ [])

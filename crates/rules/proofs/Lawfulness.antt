@@ -2,7 +2,7 @@
 -- next, keep the laws, and the steps stay within their caps.
 use Rattle.std.proofs.Common.{◌≡◌, ℕ, zero, suc, ◌+◌, ◌-◌, ◌*◌, ◌^◌, ◌<◌, ◌≤◌, Bool, true, false, cond, not, ◌||◌, eqb, leb, List, [], ◌∷◌, get_or, ℤ, pos, negsuc, ◌+ℤ◌, ◌-ℤ◌, ◌*ℤ◌, neg_ℤ, nat_abs, sym, refl, ap, subst, inl, inr, le_trans, mul-le-mul_right, mul_assoc, add-mul, mul-le-mul_left, arith}
 use lib.Signed.{lt_z}
-use Rattle.std.specs.List.{AllByRecursion as All}
+use Rattle.std.specs.List.{AllByRecursion}
 use Rattle.std.proofs.lemmas.Bool.{both_ways, leb-true, eq-eqb, cases_eq}
 use Rattle.std.proofs.lemmas.Int.{ints}
 use Rattle.rules.specs.Units.{label, labels, has, sum_ℤ, size, displacement}
@@ -184,7 +184,7 @@ spread_lawful = additive_lawful spread.caps spread.step (λ p n A j two t low sm
     let k = displacement_low p n A j t low l in
     (omega (arith, abs_product d d, product_low (nat_abs d) (nat_abs d) 190000 190000 k k), tt))
 
-place_low : (c : ℕ) (xs : List ℕ) → All (λ x. x ≤ c) xs → (i : ℕ) → get_or xs i 0 ≤ c
+place_low : (c : ℕ) (xs : List ℕ) → AllByRecursion (λ x. x ≤ c) xs → (i : ℕ) → get_or xs i 0 ≤ c
 place_low c [] h i = omega arith
 place_low c (x ∷ xs) h zero = h.0
 place_low c (x ∷ xs) h (suc i) = place_low c xs h.1 i

@@ -1,7 +1,7 @@
 -- Any list of the nine calls on a sheet just opened, and what then holds.
 use Rattle.std.specs.Prelude.{◌≡◌, ℕ, ◌-◌, ◌^◌, ◌<◌, ◌≤◌, Bool, true, false, cond, ◌⊎◌, ◌↔◌, List, [], ◌∷◌, ◌++◌, length, take, ℤ, pos, ◌+ℤ◌, ◌≤ℤ◌, Some, None, Option, ◌≢◌, slice_index_or}
 use Rattle.std.specs.Option.{unwrap_or}
-use Rattle.std.specs.List.{AllByRecursion as All}
+use Rattle.std.specs.List.{AllByRecursion}
 use Rattle.rules.specs.declared.Mark.{Mark}
 use Rattle.rules.specs.declared.Mark.TheVariants.{Gap, Number}
 use Rattle.rules.specs.Units.{label}
@@ -125,14 +125,14 @@ pub record Last {A : Type 0} (f : Call → Option A) (calls : List Call) (x : A)
   pub before : List Call
   pub parts : calls ≡ later ++ (call ∷ before)
   pub says : f call ≡ Some x
-  pub silent : All (λ c. f c ≡ None) later
+  pub silent : AllByRecursion (λ c. f c ≡ None) later
 
 -- each mark and tie of the sheet is by the last accepted call that names its pair; by none, a gap and no tie
 pub record Told (n : ℕ) (calls : List Call) (s : Contents) : Type 0 where
   pub marked : (a b : ℕ) (m : Mark) → Last (λ c. mark_given (change n c) a b) calls m → s.mark a b ≡ m
-  pub unmarked : (a b : ℕ) → All (λ c. mark_given (change n c) a b ≡ None) calls → s.mark a b ≡ Gap
+  pub unmarked : (a b : ℕ) → AllByRecursion (λ c. mark_given (change n c) a b ≡ None) calls → s.mark a b ≡ Gap
   pub tied : (a b : ℕ) (t : Bool) → Last (λ c. tie_given (change n c) a b) calls t → s.tied a b ≡ t
-  pub untied : (a b : ℕ) → All (λ c. tie_given (change n c) a b ≡ None) calls → s.tied a b ≡ false
+  pub untied : (a b : ℕ) → AllByRecursion (λ c. tie_given (change n c) a b ≡ None) calls → s.tied a b ≡ false
 
 -- A refused call changes no sheet, row, table or list, but Rank's refusal `number` leaves both tables filled.
 pub record Unchanged (s : Contents) : Type 0 where

@@ -23,13 +23,13 @@ pub loop-i-preserved : goal.loop-i-preserved
 loop-i-preserved c =
     let t = c.args.ties.now in
     passed (keeps (tied_of t)) (λ b o. free t b (b ∷ o)) refl (λ _ _. refl) c.args.row.now c.loop-i.i c.loop-i.invariant
-    c.loop-i-test.true (rest t c.args.row.now c.loop-i.i c.loop-i-test.true _ c.if-not-none-earlier.ensures)
+    c.loop-i-test.true (rest t c.args.row.now c.loop-i.i c.loop-i-test.true _ c.if-not-none_earlier.ensures)
 
-pub returns-then-not-none-earlier : goal.returns-then-not-none-earlier
-returns-then-not-none-earlier c =
+pub returns-then-not-none_earlier : goal.returns-then-not-none_earlier
+returns-then-not-none_earlier c =
     let t = c.args.ties.now in
     failed (keeps (tied_of t)) (λ b o. free t b (b ∷ o)) refl (λ _ _. refl) c.args.row.now c.loop-i.i c.loop-i.invariant
-    c.loop-i-test.true (rest t c.args.row.now c.loop-i.i c.loop-i-test.true _ c.if-not-none-earlier.ensures)
+    c.loop-i-test.true (rest t c.args.row.now c.loop-i.i c.loop-i-test.true _ c.if-not-none_earlier.ensures)
 
 pub returns : goal.returns
 returns c =

@@ -7,12 +7,12 @@ use Rattle.marks.proofs.rows.all_labels.Goals as goal
 pub loop-a-preserved : goal.loop-a-preserved
 loop-a-preserved c =
     passed (list_all (label c.args.n)) (λ a _. label c.args.n a) refl (λ _ _. refl) c.args.row.now c.loop-a.a-index
-    c.loop-a.invariant c.loop-a-test.true (sym c.if-not-is-label.ensures)
+    c.loop-a.invariant c.loop-a-test.true (sym c.if-not-is_label.ensures)
 
-pub returns-then-not-is-label : goal.returns-then-not-is-label
-returns-then-not-is-label c =
+pub returns-then-not-is_label : goal.returns-then-not-is_label
+returns-then-not-is_label c =
     failed (list_all (label c.args.n)) (λ a _. label c.args.n a) refl (λ _ _. refl) c.args.row.now c.loop-a.a-index
-    c.loop-a.invariant c.loop-a-test.true (sym c.if-not-is-label.ensures)
+    c.loop-a.invariant c.loop-a-test.true (sym c.if-not-is_label.ensures)
 
 pub returns : goal.returns
 returns c =

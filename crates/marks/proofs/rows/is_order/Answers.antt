@@ -5,6 +5,6 @@ use Rattle.marks.proofs.rows.is_order.Goals as goal
 
 pub returns : goal.returns
 returns c =
-    let e = c.whole-order.ensures ∙ ap (is_order c.args.n) c.first.ensures in
+    let e = c.whole_order.ensures ∙ ap (is_order c.args.n) c.first.ensures in
     let w = row_tests_mean.order c.args.n _ in
     record { test = e; means = (λ h. w.0 (sym e ∙ h), λ o. e ∙ w.1 o) }

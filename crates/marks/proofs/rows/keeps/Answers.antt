@@ -9,7 +9,7 @@ pub returns : goal.returns
 returns c =
     let t = c.args.ties.now in
     let row = c.args.row.now in
-    let e = c.all-keep.ensures ∙ ap (keeps (tied_of t)) (c.first.ensures ∙ ap (λ n. take n row) c.units.ensures) in
+    let e = c.all_keep.ensures ∙ ap (keeps (tied_of t)) (c.first.ensures ∙ ap (λ n. take n row) c.units.ensures) in
     record {
       test = e;
       means = λ o.

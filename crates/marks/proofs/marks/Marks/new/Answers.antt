@@ -2,9 +2,9 @@ use Rattle.std.proofs.Common.{sym, refl, ◌∙◌, arith}
 use Rattle.marks.proofs.Cells.{size_least, size_most, read_none}
 use Rattle.marks.proofs.marks.Marks.new.Goals as goal
 
-pub invariant-of-result : goal.invariant-of-result
-invariant-of-result c =
-    let size = sym c.if-not-is-size.ensures in
+pub invariant_of-result : goal.invariant_of-result
+invariant_of-result c =
+    let size = sym c.if-not-is_size.ensures in
     let none = read_none c.args.units c.blank.result 400 c.blank.ensures in (
       size_least c.args.units size,
       (
@@ -18,7 +18,7 @@ invariant-of-result c =
 
 pub returns : goal.returns
 returns c = (
-  sym c.if-not-is-size.ensures,
+  sym c.if-not-is_size.ensures,
   record {
     size = refl;
     marks = read_none c.args.units c.blank.result 400 c.blank.ensures;

@@ -3,12 +3,12 @@ use Rattle.std.proofs.lemmas.Bool.{leb-true, and_from}
 use Rattle.marks.proofs.Cells.{two, read_put, put_symmetric, put_low}
 use Rattle.marks.proofs.marks.Marks.put.Goals as goal
 
-pub invariant-of-self : goal.invariant-of-self
-invariant-of-self c =
+pub invariant_of-self : goal.invariant_of-self
+invariant_of-self c =
     let s = c.args.self.now in
-    let t = two s.units c.args.a c.args.b (sym c.if-not-is-pair.ensures) in
+    let t = two s.units c.args.a c.args.b (sym c.if-not-is_pair.ensures) in
     let l = c.store.ensures.whole in
-    let low = leb-true c.args.d 10000 (sym c.if-not-is-low.ensures) in
+    let low = leb-true c.args.d 10000 (sym c.if-not-is_low.ensures) in
     rw c.store.ensures.stored (
       s.least,
       (
@@ -23,10 +23,10 @@ invariant-of-self c =
 pub returns : goal.returns
 returns c =
     let s = c.args.self.now in
-    let p = sym c.if-not-is-pair.ensures in
+    let p = sym c.if-not-is_pair.ensures in
     let t = two s.units c.args.a c.args.b p in
     record {
-      answered = sym (and_from _ _ p (sym c.if-not-is-low.ensures));
+      answered = sym (and_from _ _ p (sym c.if-not-is_low.ensures));
       size = refl;
       marks = λ x y. rw c.store.ensures.stored
           (read_put s.units s.cells c.args.a c.args.b c.args.d s.most c.store.ensures.whole t x y);
