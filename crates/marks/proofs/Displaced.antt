@@ -1,5 +1,5 @@
 -- The displacement of a unit, label by label.
-use Rattle.std.proofs.Common.{◌≡◌, ℕ, zero, suc, ◌+◌, ◌-◌, ◌*◌, ◌<◌, ◌≤◌, Bool, true, false, eqb, ◌≢◌, List, get_or, take, drop, ℤ, pos, ◌+ℤ◌, nat_abs, sym, refl, ap, ◌∙◌, inl, inr, add-one, arith, get_or-drop, get_or-take}
+use Rattle.std.proofs.Common.{◌≡◌, ℕ, zero, suc, ◌+◌, ◌-◌, ◌*◌, ◌<◌, ◌≤◌, Bool, true, false, eqb, ◌≢◌, List, get_or, take, drop, pos, ◌+ℤ◌, nat_abs, sym, refl, ap, ◌∙◌, inl, inr, add-one, arith, get_or-drop, get_or-take}
 use Rattle.std.proofs.lemmas.Bool.{cases_Bool, cond-true, eqb-false}
 use Rattle.std.proofs.lemmas.Int.{ints}
 use Rattle.rules.specs.Units.{label, labels, has, displacement}

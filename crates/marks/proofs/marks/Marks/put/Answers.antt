@@ -9,16 +9,12 @@ invariant_of-self c =
     let t = two s.units c.args.a c.args.b (sym c.if-not-is_pair.ensures) in
     let l = c.store.ensures.whole in
     let low = leb-true c.args.d 10000 (sym c.if-not-is_low.ensures) in
-    rw c.store.ensures.stored (
-      s.least,
-      (
-        s.most,
-        (
-          put_symmetric s.units s.cells c.args.a c.args.b c.args.d s.most l t s.symmetric,
-          (put_low s.units s.cells c.args.a c.args.b c.args.d s.most l t low s.low, tt),
-        ),
-      ),
-    )
+    rw c.store.ensures.stored (record {
+      least = s.least;
+      most = s.most;
+      symmetric = put_symmetric s.units s.cells c.args.a c.args.b c.args.d s.most l t s.symmetric;
+      low = put_low s.units s.cells c.args.a c.args.b c.args.d s.most l t low s.low;
+    })
 
 pub returns : goal.returns
 returns c =

@@ -3,7 +3,6 @@ use mathlib.Core.Bool.{beq}
 use lib.Bits.{xor_lt}
 use Rattle.std.proofs.lemmas.Nat.{pow_below}
 use Rattle.std.proofs.lemmas.Bool.{cases_eq, eq-eqb, ne_eqb}
-use Rattle.rules.specs.Units.{has}
 use Rattle.rules.proofs.Sets.{label_low}
 use Rattle.marks.proofs.Bits.{turned_own, turned_other}
 use Rattle.marks.proofs.ties.ops.changed.Goals as goal
