@@ -2,7 +2,7 @@
 use Rattle.std.proofs.Common.{◌≡◌, ℕ, zero, suc, ◌<◌, List, [], ◌∷◌, ◌++◌, length, get_or, drop, ℤ, pos, negsuc, codes, decimal, sym, refl, ap, ◌∙◌, append_assoc, arith}
 use Rattle.std.specs.Int.{IsInRange}
 use Rattle.std.specs.Fmt.{signed_decimal}
-use Rattle.std.specs.List.{AllByRecursion as All}
+use Rattle.std.specs.List.{AllByRecursion}
 use Rattle.std.proofs.lemmas.Fmt.{decimal_is_IsNumeral, decimal_nonempty, decimal_injective, signed_decimal_injective}
 use Rattle.std.proofs.lemmas.Str.Parse.{digit_at}
 use Rattle.answers.specs.Lines.{each, total_text, ranking, scaling, ranked, scaled, refused, Whole64, Signed64, Numbers64, OneAnswer}
@@ -61,7 +61,7 @@ module _ {X : Type 0} {f : X → List ℕ} {Valid : X → Type 0} (law : Told f 
     no_each y ys s t vy cs e =
         no_number y (drop 1 s) (each byte f ys ++ t) vy (cs.last (ap (λ l. get_or l 0 0) e)) (ap (drop 1) e ∙ append_assoc (f y) (each byte f ys) t)
 
-    each_same : (xs ys : List X) (s t : List ℕ) → All Valid xs → All Valid ys → Closes byte s → Closes byte t → each byte f xs ++ s ≡ each byte f ys ++ t → (xs ≡ ys) × (s ≡ t)
+    each_same : (xs ys : List X) (s t : List ℕ) → AllByRecursion Valid xs → AllByRecursion Valid ys → Closes byte s → Closes byte t → each byte f xs ++ s ≡ each byte f ys ++ t → (xs ≡ ys) × (s ≡ t)
     each_same [] [] s t vx vy cs ct e = (refl, e)
     each_same [] (y ∷ ys) s t vx vy cs ct e = absurd (no_each y ys s t vy.0 cs e)
     each_same (x ∷ xs) [] s t vx vy cs ct e = absurd (no_each x xs t s vx.0 ct (sym e))
@@ -104,7 +104,7 @@ spaced_word letter s high = record { ends = space_parts; last = λ e h. omega ar
 after_total : (s : List ℕ) → Closes 44 (32 ∷ s)
 after_total s = record { ends = space_parts; last = λ e. absurd (omega arith) }
 
-total_same : (xs ys : List ℤ) (s t : List ℕ) → All Signed64 xs → All Signed64 ys → Closes 44 s → Closes 44 t → total_text xs ++ s ≡ total_text ys ++ t → (xs ≡ ys) × (s ≡ t)
+total_same : (xs ys : List ℤ) (s t : List ℕ) → AllByRecursion Signed64 xs → AllByRecursion Signed64 ys → Closes 44 s → Closes 44 t → total_text xs ++ s ≡ total_text ys ++ t → (xs ≡ ys) × (s ≡ t)
 total_same [] [] s t vx vy cs ct e = (refl, e)
 total_same [] (y ∷ ys) s t vx vy cs ct e = absurd (no_number signeds y s _ vy.0 cs.ends (e ∙ append_assoc (signed_decimal y) (each 44 signed_decimal ys) t))
 total_same (x ∷ xs) [] s t vx vy cs ct e = absurd (no_number signeds x t _ vx.0 ct.ends (sym e ∙ append_assoc (signed_decimal x) (each 44 signed_decimal xs) s))
@@ -131,7 +131,7 @@ ranking_same o p x y m n s t v w es et e =
 scaling_then : (displaced : List ℤ) (loss : ℤ) (s : List ℕ) → scaling displaced loss ++ s ≡ codes " at" ++ (each 32 signed_decimal displaced ++ (codes " loss " ++ (signed_decimal loss ++ s)))
 scaling_then displaced loss s = simp append_assoc
 
-scaling_same : (d e : List ℤ) (x y : ℤ) (s t : List ℕ) → All Signed64 d → All Signed64 e → Signed64 x → Signed64 y → Ends s → Ends t
+scaling_same : (d e : List ℤ) (x y : ℤ) (s t : List ℕ) → AllByRecursion Signed64 d → AllByRecursion Signed64 e → Signed64 x → Signed64 y → Ends s → Ends t
     → scaling d x ++ s ≡ scaling e y ++ t → (d ≡ e) × (x ≡ y)
 scaling_same d e x y s t vd ve vx vy es et is =
     let a = each_same signeds 32 space_parts d e _ _ vd ve (spaced_word 108 _ (omega arith)) (spaced_word 108 _ (omega arith))

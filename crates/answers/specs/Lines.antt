@@ -1,7 +1,7 @@
 -- The lines of answers: what each says, and what a buffer holds after one is written.
 use Rattle.std.specs.Prelude.{◌≡◌, ℕ, ◌^◌, ◌<◌, ◌≤◌, Bool, true, false, List, [], ◌∷◌, ◌++◌, length, drop, ℤ, codes, decimal, Option, MatchOption, nat_le}
 use Rattle.std.specs.Int.Signed.{mag}
-use Rattle.std.specs.List.{flat_map, AllByRecursion as All}
+use Rattle.std.specs.List.{flat_map, AllByRecursion}
 use Rattle.std.specs.Fmt.{signed_decimal}
 use Rattle.answers.specs.declared.total.Total.{Total}
 use Rattle.answers.specs.declared.total.Total.TheVariants.{One, Two}
@@ -79,8 +79,8 @@ Signed64 z = mag z < 2 ^ 63
 
 -- every number of the answer has 64 bits
 abbrev pub Numbers64 : Answer → Type 0
-Numbers64 (ranked order total count) = All Whole64 order × All Signed64 total × Whole64 count
-Numbers64 (scaled order total count displaced loss) = All Whole64 order × All Signed64 total × Whole64 count × All Signed64 displaced × Signed64 loss
+Numbers64 (ranked order total count) = AllByRecursion Whole64 order × AllByRecursion Signed64 total × Whole64 count
+Numbers64 (scaled order total count displaced loss) = AllByRecursion Whole64 order × AllByRecursion Signed64 total × Whole64 count × AllByRecursion Signed64 displaced × Signed64 loss
 Numbers64 (refused line refusal) = Whole64 line × Whole64 refusal
 
 -- no two answers share a line

@@ -1,4 +1,6 @@
 // The lines of answers, written into a lent buffer.
+#![tactic(auto)]
+
 pub mod line;
 mod list;
 mod number;

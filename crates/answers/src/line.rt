@@ -15,7 +15,8 @@ pub const MOST_UNITS: usize = 11;
 
 // Writes an order, its total and its count at the start of the buffer, and answers the place after them.
 fn put_ranking(buffer: &mut [u8], order: &[u8], total: Total, count: u64) -> usize
-    requires { (length order.now ≤ 11) × (121 ≤ length buffer.old) }
+    requires few { length order.now ≤ 11 }
+    requires space { 121 ≤ length buffer.old }
     ensures placed { Placed (ranking order.now (total_numbers total) count) 0 buffer.old buffer.new result }
     ensures room { result ≤ 121 }
 {
@@ -29,7 +30,8 @@ fn put_ranking(buffer: &mut [u8], order: &[u8], total: Total, count: u64) -> usi
 
 // Writes displacements and a loss at a place of the buffer, and answers the place after them.
 fn put_scaling(buffer: &mut [u8], at: usize, displaced: &[i64], loss: i64) -> usize
-    requires { (length displaced.now ≤ 11) × (at + 260 ≤ length buffer.old) }
+    requires few { length displaced.now ≤ 11 }
+    requires space { at + 260 ≤ length buffer.old }
     ensures placed { Placed (scaling displaced.now loss) at buffer.old buffer.new result }
     ensures room { result ≤ at + 260 }
 {

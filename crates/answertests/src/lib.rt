@@ -1,4 +1,6 @@
 // Tests of the lines of answers.
+#![tactic(auto)]
+
 #[cfg(test)]
 mod limits;
 #[cfg(test)]

@@ -5,10 +5,10 @@ use Rattle.answers.proofs.line.put_ranking.Goals as goal
 pub returns : goal.returns
 returns c = record {
   placed =
-      placed_more (omega arith) c.put-text-order-at.ensures
-      (placed_more (omega arith) c.put-each-total-word.ensures.placed
-      (placed_more (omega arith) c.put-text-total-at.ensures
-      (placed_more (omega arith) c.put-total-count-word.ensures.placed
-      (placed_more (omega arith) c.put-text-count-at.ensures c.put.ensures.placed))));
+      placed_more (omega arith) c.put_text-order_at.ensures
+      (placed_more (omega arith) c.put_each-total_word.ensures.placed
+      (placed_more (omega arith) c.put_text-total_at.ensures
+      (placed_more (omega arith) c.put_total-count_word.ensures.placed
+      (placed_more (omega arith) c.put_text-count_at.ensures c.put.ensures.placed))));
   room = omega arith;
 }

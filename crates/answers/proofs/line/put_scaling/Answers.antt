@@ -6,8 +6,8 @@ use Rattle.answers.proofs.line.put_scaling.Goals as goal
 pub returns : goal.returns
 returns c = record {
   placed =
-      placed_more (omega arith) c.put-text-displaced-at.ensures
-      (placed_more (omega arith) c.put-each-loss-word.ensures.placed
-      (placed_more (omega arith) c.put-text-loss-at.ensures (rw (to_z-of_z w64 c.args.loss c.ranges.loss) at c.put.ensures.placed)));
+      placed_more (omega arith) c.put_text-displaced_at.ensures
+      (placed_more (omega arith) c.put_each-loss_word.ensures.placed
+      (placed_more (omega arith) c.put_text-loss_at.ensures (rw (to_z-of_z w64 c.args.loss c.ranges.loss) at c.put.ensures.placed)));
   room = omega arith;
 }

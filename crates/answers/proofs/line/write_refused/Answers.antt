@@ -6,9 +6,9 @@ pub returns : goal.returns
 returns c = (
   search rules,
   starts
-      (placed_more (omega arith) c.put-text-line-at.ensures
-      (placed_more (omega arith) (simp c.from.ensures at c.put-refused-word.ensures.placed)
-      (placed_more (omega arith) c.put-text-refusal-at.ensures
-      (placed_more (omega arith) c.put-refusal-end.ensures.placed c.put-byte.ensures))))
-      (omega (arith, c.put-byte.ensures.ends)),
+      (placed_more (omega arith) c.put_text-line_at.ensures
+      (placed_more (omega arith) (simp c.from.ensures at c.put-refused_word.ensures.placed)
+      (placed_more (omega arith) c.put_text-refusal_at.ensures
+      (placed_more (omega arith) c.put-refusal_end.ensures.placed c.put_byte.ensures))))
+      (omega (arith, c.put_byte.ensures.ends)),
 )

@@ -7,7 +7,7 @@ pub returns : goal.returns
 returns c = (
   search rules,
   starts
-      (placed_more (omega arith) c.put-ranking-ranking-end.ensures.placed
-      (placed_more (omega arith) (rw (to_z-of_z w64 c.args.loss c.ranges.loss) at c.put-scaling-scaling-end.ensures.placed) c.put-byte.ensures))
-      (omega (arith, c.put-byte.ensures.ends)),
+      (placed_more (omega arith) c.put_ranking-ranking_end.ensures.placed
+      (placed_more (omega arith) (rw (to_z-of_z w64 c.args.loss c.ranges.loss) at c.put_scaling-scaling_end.ensures.placed) c.put_byte.ensures))
+      (omega (arith, c.put_byte.ensures.ends)),
 )

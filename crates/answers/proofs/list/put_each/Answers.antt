@@ -8,21 +8,21 @@ use Rattle.answers.proofs.list.put_each.Goals as goal
 pub loop-x-init : goal.loop-x-init
 loop-x-init g c = (placed_none _ _, omega arith)
 
-pub put-byte-next-requires : goal.put-byte-next-requires
-put-byte-next-requires g c = omega (arith, c.loop-x.invariant.1, room_more (g.N.Number.most + 1) _ _ c.loop-x-test.true)
+pub put_byte-next-requires : goal.put_byte-next-requires
+put_byte-next-requires g c = omega (arith, c.loop-x.invariant.1, room_more (g.N.Number.most + 1) _ _ c.loop-x-test.true)
 
 pub put-end-requires : goal.put-end-requires
 put-end-requires g c =
-    omega (arith, c.loop-x.invariant.1, c.put-byte-next.ensures.ends, room_more (g.N.Number.most + 1) _ _ c.loop-x-test.true)
+    omega (arith, c.loop-x.invariant.1, c.put_byte-next.ensures.ends, room_more (g.N.Number.most + 1) _ _ c.loop-x-test.true)
 
 pub loop-x-preserved : goal.loop-x-preserved
 loop-x-preserved g c =
     let more = joined_take (parted 32 g.N.Number.text) c.args.numbers.now c.loop-x.x-index c.x-item.result c.loop-x-test.true c.x-item.is in
     let le : c.args.at ≤ length c.args.buffer.now = omega arith in
     let le' : c.loop-x.end ≤ length c.loop-x.buffer = omega (arith, c.loop-x.invariant.1, room_more (g.N.Number.most + 1) _ _ c.loop-x-test.true) in
-    let word = placed_more le' c.put-byte-next.ensures c.put-end.ensures.placed in (
+    let word = placed_more le' c.put_byte-next.ensures c.put-end.ensures.placed in (
       subst (λ t. Placed t c.args.at c.args.buffer.now c.put-end.new.buffer c.put-end.result) (sym more) (placed_more le c.loop-x.invariant.0 word),
-      omega (arith, c.loop-x.invariant.1, c.put-byte-next.ensures.ends, c.put-end.ensures.room, mul-add (g.N.Number.most + 1) c.loop-x.x-index 1),
+      omega (arith, c.loop-x.invariant.1, c.put_byte-next.ensures.ends, c.put-end.ensures.room, mul-add (g.N.Number.most + 1) c.loop-x.x-index 1),
     )
 
 pub returns : goal.returns

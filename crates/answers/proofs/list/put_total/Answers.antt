@@ -18,6 +18,6 @@ returns-in-Two c =
     record {
       placed =
           subst (λ t. Placed t c.args.at c.args.buffer.now c.put-in-Two.new.buffer c.put-in-Two.result) (sym text)
-          (placed_more (omega arith) c.put-end.ensures.placed (placed_more (omega arith) c.put-byte-next.ensures c.put-in-Two.ensures.placed));
-      room = omega (arith, c.put-end.ensures.room, c.put-byte-next.ensures.ends, c.put-in-Two.ensures.room);
+          (placed_more (omega arith) c.put-end.ensures.placed (placed_more (omega arith) c.put_byte-next.ensures c.put-in-Two.ensures.placed));
+      room = omega (arith, c.put-end.ensures.room, c.put_byte-next.ensures.ends, c.put-in-Two.ensures.room);
     }
