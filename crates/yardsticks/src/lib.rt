@@ -1,4 +1,6 @@
 // Yardsticks: the trait, the three of the rules, and the total of an order.
+#![tactic(auto)]
+
 pub mod gradient;
 pub mod spread;
 pub mod target;
