@@ -1,4 +1,6 @@
 // Tests of marks, ties and rows.
+#![tactic(auto)]
+
 #[cfg(test)]
 mod numbers;
 #[cfg(test)]

@@ -1,4 +1,6 @@
 // Improving an order by moves: the trait of a kind of move, interchange and insertion, and the improving.
+#![tactic(auto)]
+
 pub mod improve;
 pub mod insertion;
 pub mod interchange;

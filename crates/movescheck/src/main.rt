@@ -1,5 +1,7 @@
 // Compares improving with a plain version of it, on pseudo-random sheets of 2 to 8 units, by both kinds of move and all
 // three yardsticks.
+#![tactic(auto)]
+
 use anyhow::anyhow;
 use compare::{Tally, compare_sheet};
 use samples::numbers::Numbers;

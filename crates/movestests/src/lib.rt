@@ -1,4 +1,6 @@
 // Tests of improving: worked examples, limits, ties, and each fault.
+#![tactic(auto)]
+
 #[cfg(test)]
 mod faults;
 #[cfg(test)]

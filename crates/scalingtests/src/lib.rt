@@ -1,4 +1,6 @@
 // Tests of coordinates and comparisons.
+#![tactic(auto)]
+
 #[cfg(test)]
 mod comparisons;
 #[cfg(test)]

@@ -1,4 +1,6 @@
 // The search by spread and by gradient, exported for the benchmark in bench/.
+#![tactic(auto)]
+
 use marks::marks::Marks;
 use marks::ties::Ties;
 use search::best::best;

@@ -1,5 +1,7 @@
 // Compares the search over sets with a plain search of all orders, on pseudo-random sheets of 2 to 8 units, and asks it
 // for the orders of twenty units.
+#![tactic(auto)]
+
 use anyhow::anyhow;
 use compare::{Tally, compare_sheet};
 use samples::numbers::Numbers;

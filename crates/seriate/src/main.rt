@@ -1,5 +1,7 @@
 // Orders the twelve graves of a site: a pair that nobody compared is refused, then the best orders are listed by each
 // yardstick, the best by spread is scaled and checked, and the old way of exchanging is compared with it.
+#![tactic(auto)]
+
 use anyhow::anyhow;
 use rankings::{show_gradient, show_spread, show_target};
 use rows::{show_line, show_moves};

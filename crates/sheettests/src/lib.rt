@@ -1,4 +1,6 @@
 // Tests of the sheet and its nine calls.
+#![tactic(auto)]
+
 #[cfg(test)]
 mod answers;
 #[cfg(test)]
