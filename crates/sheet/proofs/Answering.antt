@@ -1,5 +1,5 @@
 -- What Score, Scale, Check and Improve answer and leave, from what is found on the marks as numbers.
-use Rattle.std.proofs.Common.{◌≡◌, ℕ, suc, ◌+◌, ◌-◌, ◌*◌, ◌/◌, ◌<◌, ◌≤◌, Bool, true, false, cond, not, eqb, ltb, List, [], ◌∷◌, ◌++◌, length, take, drop, ℤ, Some, None, sym, refl, ap, ◌∙◌, subst, arith}
+use Rattle.std.proofs.Common.{◌≡◌, ℕ, suc, ◌+◌, ◌-◌, ◌*◌, ◌/◌, Bool, true, false, cond, not, eqb, ltb, List, [], ◌∷◌, ◌++◌, length, take, drop, ℤ, Some, None, sym, refl, ap, ◌∙◌, subst, arith}
 use lib.Seq.{take-append_seam}
 use Rattle.std.proofs.lemmas.Bool.{both_ways, eqb-true, eq-eqb, and_parts, not-false}
 use Rattle.rules.specs.Units.{with_unit}
@@ -10,11 +10,11 @@ use Rattle.rules.specs.Ranking.{total}
 use Rattle.rules.specs.Scaling.{displacements, loss}
 use Rattle.rules.specs.Pattern.{kept, broken}
 use Rattle.rules.specs.Moves.{Moves, Improved, improved, settled}
-use Rattle.rules.specs.Calls.{Outcome, Refusal, accepted, refused, is_accepted, short, against, decide, written, row_tests, against_test, score_outcome, ScaleAnswer, scale_answer, scale_outcome, check_outcome, ImproveAnswer, improve_answer, improve_outcome}
+use Rattle.rules.specs.Calls.{Refusal, accepted, refused, is_accepted, short, against, decide, written, row_tests, against_test, ScaleAnswer, scale_answer, scale_outcome, ImproveAnswer, improve_answer, improve_outcome}
 use Rattle.rules.proofs.Deciding.{decide_past, decide_stop, refused_any, accepted_any, none_holds}
 use Rattle.marks.specs.declared.marks.Marks.{Marks}
 use Rattle.marks.specs.Numbers.{units_of, numbers_of}
-use Rattle.marks.specs.Tied.{tied_units, tied_of, first_of}
+use Rattle.marks.specs.Tied.{tied_of, first_of}
 use Rattle.yardsticks.specs.Totals.{order_of, total_of}
 use Rattle.scaling.specs.Scaled.{Scaled}
 use Rattle.scaling.specs.Compared.{Compared}
@@ -27,7 +27,7 @@ use Rattle.sheet.specs.Faults.{answer_refusal}
 use Rattle.sheet.specs.Raised.{improving}
 use Rattle.sheet.specs.Contents.{contents}
 use Rattle.sheet.specs.Measured.{MarksOf}
-use Rattle.sheet.specs.Answers.{Scores, Scales, Checks, Improves}
+use Rattle.sheet.specs.Answers.{Scales, Checks, Improves}
 use Rattle.sheet.proofs.Measuring.{same_numbers}
 
 -- the tests of a row, then that of the ties

@@ -1,18 +1,18 @@
 -- What the calls that change a sheet leave of its contents.
 use Rattle.std.proofs.Common.{◌≡◌, ℕ, ◌<◌, ◌≤◌, Bool, true, false, cond, not, ◌&&◌, ltb, [], ◌∷◌, sym, refl, ap, ◌∙◌, subst, arith}
-use Rattle.std.proofs.lemmas.Bool.{both_ways, lt-ltb, le-ltb, and_from}
+use Rattle.std.proofs.lemmas.Bool.{both_ways, lt-ltb, le-ltb}
 use Rattle.std.proofs.lemmas.Bool.Decides.{nat_tests}
 use Rattle.rules.specs.declared.Mark.{Mark}
 use Rattle.rules.specs.declared.Mark.TheVariants.{Gap, Number}
 use Rattle.rules.specs.Yardsticks.{Low}
 use Rattle.rules.specs.Sheets.{Contents, new_contents, with_mark, with_tie, same_pair, same_tie, value}
-use Rattle.rules.specs.Calls.{Outcome, Refusal, accepted, refused, mark, is_accepted, decide, pair_tests, open_outcome, write_outcome, pair_outcome}
+use Rattle.rules.specs.Calls.{Refusal, accepted, refused, mark, is_accepted, pair_tests, open_outcome, write_outcome, pair_outcome}
 use Rattle.rules.specs.Calls.{size as size-refusal}
-use Rattle.rules.specs.Runs.{Change, to_mark, to_tie, changed, if_accepted, write, blank, tie, untie}
+use Rattle.rules.specs.Runs.{to_mark, to_tie, changed, if_accepted}
 use Rattle.rules.proofs.Deciding.{decide_past, decide_stop, none_holds}
 use Rattle.marks.specs.declared.ties.Ties.{Ties}
 use Rattle.marks.specs.Cells.{is_size, pair}
-use Rattle.marks.specs.Tied.{tied_units, tied_of, TieSet, Untied}
+use Rattle.marks.specs.Tied.{tied_of, TieSet, Untied}
 use Rattle.cells.specs.declared.triangle.Triangle.{Triangle}
 use Rattle.cells.specs.Read.{mark_at, number_at, AllGaps}
 use Rattle.cells.specs.Gaps.{sheet_of}

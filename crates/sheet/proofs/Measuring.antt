@@ -1,13 +1,13 @@
 -- The marks of a sheet as numbers.
-use Rattle.std.proofs.Common.{◌≡◌, ℕ, ◌<◌, ◌≤◌, Bool, true, false, cond, not, leb, List, [], ◌∷◌, ◌++◌, length, take, None, Option, sym, refl, ap, ◌∙◌, arith}
+use Rattle.std.proofs.Common.{◌≡◌, ◌≤◌, true, false, cond, refl, ap, ◌∙◌, arith}
 use Rattle.std.proofs.lemmas.Bool.{le-leb}
 use Rattle.rules.specs.declared.Mark.{Mark}
 use Rattle.rules.specs.declared.Mark.TheVariants.{Gap, Number}
 use Rattle.rules.specs.Sheets.{value, numbers}
 use Rattle.marks.specs.declared.marks.Marks.{Marks}
 use Rattle.marks.specs.Cells.{pair}
-use Rattle.marks.specs.Numbers.{units_of, numbers_of}
-use Rattle.cells.specs.Read.{mark_at, number_at}
+use Rattle.marks.specs.Numbers.{numbers_of}
+use Rattle.cells.specs.Read.{mark_at}
 use Rattle.cells.specs.Gaps.{low_value, AsNumbers}
 use Rattle.sheet.specs.declared.sheet.Sheet.{Sheet}
 use Rattle.sheet.specs.Contents.{contents}

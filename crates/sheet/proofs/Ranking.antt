@@ -1,5 +1,5 @@
 -- What Rank answers and leaves, from what the search finds.
-use Rattle.std.proofs.Common.{◌≡◌, ℕ, ◌-◌, ◌^◌, ◌<◌, ◌≤◌, Bool, true, false, cond, not, ◌&&◌, ◌||◌, eqb, ltb, leb, List, [], ◌∷◌, ◌++◌, map, length, get_or, take, drop, ℤ, Some, None, sym, refl, ap, ◌∙◌, subst, arith}
+use Rattle.std.proofs.Common.{◌≡◌, ℕ, ◌-◌, ◌^◌, ◌<◌, ◌≤◌, Bool, true, false, cond, ◌||◌, eqb, ltb, List, [], ◌∷◌, ◌++◌, map, length, get_or, take, drop, ℤ, Some, None, sym, refl, ap, ◌∙◌, subst, arith}
 use lib.Seq.{take-append_seam}
 use Rattle.std.proofs.lemmas.Bool.{eq-eqb}
 use Rattle.std.proofs.lemmas.List.{length-map, map-id, get_or_default}
@@ -9,13 +9,13 @@ use Rattle.rules.specs.Sheets.{Contents, numbers}
 use Rattle.rules.specs.Yardsticks.{Merit}
 use Rattle.rules.specs.Orders.{circular}
 use Rattle.rules.specs.Ranking.{best, listed, total_cell, count_cell, filled}
-use Rattle.rules.specs.Calls.{Outcome, Refusal, accepted, refused, is_accepted, short, circle, number, decide, written, gap_tests, RankAnswer, rank_short, rank_tests, rank_listed, rank_answer, number_test, rank_outcome}
+use Rattle.rules.specs.Calls.{Refusal, accepted, refused, is_accepted, short, circle, number, decide, written, gap_tests, RankAnswer, rank_short, rank_tests, rank_listed, rank_answer, number_test, rank_outcome}
 use Rattle.rules.proofs.Deciding.{decide_past, decide_stop}
 use Rattle.rules.proofs.Sets.{size_none}
-use Rattle.rules.proofs.Members.{In, in_at, filter_in}
+use Rattle.rules.proofs.Members.{in_at, filter_in}
 use Rattle.rules.proofs.Ways.{in_ways}
 use Rattle.marks.specs.declared.marks.Marks.{Marks}
-use Rattle.marks.specs.Numbers.{units_of, numbers_of}
+use Rattle.marks.specs.Numbers.{units_of}
 use Rattle.marks.specs.Tied.{tied_units, tied_of}
 use Rattle.search.specs.declared.best.SearchFault.{SearchFault}
 use Rattle.search.specs.declared.best.SearchFault.TheVariants.{Units, Short, Circle, Number}

@@ -1,10 +1,10 @@
 -- What Rank, Score, Scale, Check and Improve answer on a sheet, and what they leave in the rows, tables and lists handed to
 -- them. They leave the sheet as it is.
-use Rattle.std.specs.Prelude.{◌≡◌, ℕ, ◌+◌, ◌-◌, ◌*◌, ◌/◌, Bool, List, map, take, ℤ, Result}
+use Rattle.std.specs.Prelude.{◌≡◌, ℕ, ◌+◌, ◌-◌, ◌*◌, ◌/◌, List, map, take, ℤ, Result}
 use Rattle.rules.specs.Sheets.{Contents}
 use Rattle.rules.specs.Yardsticks.{Merit}
 use Rattle.rules.specs.Moves.{Moves}
-use Rattle.rules.specs.Calls.{Outcome, accepted, refused, RankAnswer, rank_outcome, rank_totals_after, rank_counts_after, rank_row_after, score_outcome, ScaleAnswer, scale_outcome, scale_list_after, check_outcome, ImproveAnswer, improve_outcome, improve_row_after}
+use Rattle.rules.specs.Calls.{Outcome, accepted, RankAnswer, rank_outcome, rank_totals_after, rank_counts_after, rank_row_after, score_outcome, ScaleAnswer, scale_outcome, scale_list_after, check_outcome, ImproveAnswer, improve_outcome, improve_row_after}
 use Rattle.moves.specs.declared.improve.Improvement.{Improvement}
 use Rattle.search.specs.Best.{Lent}
 use Rattle.sheet.specs.declared.faults.AnswerFault.{AnswerFault}

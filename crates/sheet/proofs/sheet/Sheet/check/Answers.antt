@@ -4,17 +4,17 @@ use Rattle.sheet.specs.Contents.{contents}
 use Rattle.sheet.proofs.Answering.{check_refused, compared_here, never_unordered}
 use Rattle.sheet.proofs.sheet.Sheet.check.Goals as goal
 
-pub returns-in-err-marks : goal.returns-in-err-marks
-returns-in-err-marks c =
-    let p = err_from_is_err_and c.from-residual.result c.from-residual.ensures.1 in
-    rw (p.1, p.2) (check_refused (contents c.args.self.now) c.args.row.now (answer_refusal c.in-err-marks.field-0.0) c.in-err-marks.ensures)
+pub returns-in_err-marks : goal.returns-in_err-marks
+returns-in_err-marks c =
+    let p = err_from_is_err_and c.from_residual.result c.from_residual.ensures.1 in
+    rw (p.1, p.2) (check_refused (contents c.args.self.now) c.args.row.now (answer_refusal c.in_err-marks.field-0.0) c.in_err-marks.ensures)
 
 pub returns : goal.returns
 returns c =
-    let m = c.in-ok-marks.ensures in
-    compared_here c.args.self.now c.in-ok-marks.marks m.1 c.args.row.now m.0 c.in-Some.counts c.in-Some.ensures
+    let m = c.in_ok-marks.ensures in
+    compared_here c.args.self.now c.in_ok-marks.marks m.1 c.args.row.now m.0 c.in-Some.counts c.in-Some.ensures
 
 pub unreachable-requires : goal.unreachable-requires
 unreachable-requires c =
-    let m = c.in-ok-marks.ensures in
-    never_unordered c.args.self.now c.in-ok-marks.marks m.1 c.args.row.now m.0 c.in-None.ensures
+    let m = c.in_ok-marks.ensures in
+    never_unordered c.args.self.now c.in_ok-marks.marks m.1 c.args.row.now m.0 c.in-None.ensures

@@ -3,4 +3,4 @@ use Rattle.sheet.proofs.Measuring.{marks_of}
 use Rattle.sheet.proofs.sheet.Sheet.measured.Goals as goal
 
 pub returns : goal.returns
-returns c = (sym c.in-default.ensures, marks_of c.args.self.now c.in-Some-numbers.marks c.in-Some-numbers.ensures.1)
+returns c = (sym c.in_default.ensures, marks_of c.args.self.now c.in-Some-numbers.marks c.in-Some-numbers.ensures.1)

@@ -7,21 +7,21 @@ use Rattle.sheet.specs.Contents.{contents}
 use Rattle.sheet.proofs.Answering.{scale_refused, list_next, scaled_here}
 use Rattle.sheet.proofs.sheet.Sheet.scale.Goals as goal
 
-pub returns-in-err-marks : goal.returns-in-err-marks
-returns-in-err-marks c =
+pub returns-in_err-marks : goal.returns-in_err-marks
+returns-in_err-marks c =
     let s = c.args.self.now in
     let row = c.args.row.now in
     let list = c.args.list.now in
-    let p = err_from_is_err_and c.from-residual.result c.from-residual.ensures.1 in
-    rw (p.1, p.2) (scale_refused (contents s) row list (answer_refusal c.in-err-marks.field-0.0)
-    (list_next (contents s) row list (le-ltb (length list) s.units (omega arith)) ∙ c.in-err-marks.ensures))
+    let p = err_from_is_err_and c.from_residual.result c.from_residual.ensures.1 in
+    rw (p.1, p.2) (scale_refused (contents s) row list (answer_refusal c.in_err-marks.field-0.0)
+    (list_next (contents s) row list (le-ltb (length list) s.units (omega arith)) ∙ c.in_err-marks.ensures))
 
 pub returns : goal.returns
 returns c =
     let s = c.args.self.now in
     let list = c.args.list.now in
-    let m = c.in-ok-marks.ensures in
+    let m = c.in_ok-marks.ensures in
     let fits : SFits w64 c.in-Some.loss = search rules in
     rw (to_z-of_z w64 c.in-Some.loss fits)
-    (scaled_here s c.in-ok-marks.marks m.1 c.args.row.now m.0 list c.coordinates.new.list c.in-Some.loss
+    (scaled_here s c.in_ok-marks.marks m.1 c.args.row.now m.0 list c.coordinates.new.list c.in-Some.loss
     (le-ltb (length list) s.units (omega arith)) c.in-Some.ensures)

@@ -9,29 +9,29 @@ use Rattle.sheet.specs.Contents.{contents}
 use Rattle.sheet.proofs.Answering.{row_stop, ties_broken, ties_kept, keeps_same, total_same, never_unordered}
 use Rattle.sheet.proofs.sheet.Sheet.score.Goals as goal
 
-pub returns-in-err-marks : goal.returns-in-err-marks
-returns-in-err-marks g c =
+pub returns-in_err-marks : goal.returns-in_err-marks
+returns-in_err-marks g c =
     let s = c.args.self.now in
-    let p = err_from_is_err_and c.from-residual.result c.from-residual.ensures.1 in
-    rw (p.1, p.2) (record { answer = row_stop (contents s) c.args.row.now _ (answer_refusal c.in-err-marks.field-0.0) c.in-err-marks.ensures })
+    let p = err_from_is_err_and c.from_residual.result c.from_residual.ensures.1 in
+    rw (p.1, p.2) (record { answer = row_stop (contents s) c.args.row.now _ (answer_refusal c.in_err-marks.field-0.0) c.in_err-marks.ensures })
 
 pub returns-then-not-keeps : goal.returns-then-not-keeps
 returns-then-not-keeps g c =
     let s = c.args.self.now in
-    record { answer = ties_broken (contents s) c.args.row.now _ c.in-ok-marks.ensures.0 (sym (keeps_same s c.args.row.now) ∙ sym c.if-not-keeps.ensures.test) }
+    record { answer = ties_broken (contents s) c.args.row.now _ c.in_ok-marks.ensures.0 (sym (keeps_same s c.args.row.now) ∙ sym c.if-not-keeps.ensures.test) }
 
 pub returns : goal.returns
 returns g c =
     let s = c.args.self.now in
     let row = c.args.row.now in
     let y = merit_of g.Y.Yardstick in
-    let m = c.in-ok-marks.ensures in
+    let m = c.in_ok-marks.ensures in
     record {
-      answer = ap accepted (c.in-Some.ensures.1 ∙ total_same y s c.in-ok-marks.marks m.1 row)
+      answer = ap accepted (c.in-Some.ensures.1 ∙ total_same y s c.in_ok-marks.marks m.1 row)
           ∙ ties_kept (contents s) row (total y (numbers (contents s)) s.units 0 (take s.units row)) m.0 (sym (keeps_same s row) ∙ sym c.if-not-keeps.ensures.test);
     }
 
 pub unreachable-requires : goal.unreachable-requires
 unreachable-requires g c =
-    let m = c.in-ok-marks.ensures in
-    never_unordered c.args.self.now c.in-ok-marks.marks m.1 c.args.row.now m.0 c.in-None.ensures
+    let m = c.in_ok-marks.ensures in
+    never_unordered c.args.self.now c.in_ok-marks.marks m.1 c.args.row.now m.0 c.in-None.ensures
