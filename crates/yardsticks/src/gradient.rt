@@ -147,7 +147,7 @@ impl Yardstick for Gradient {
 
     ghost plus_comm = { Prim.search rules };
 
-    ghost plus_assoc = { yardsticks_lawful.1.0.plus-assoc };
+    ghost plus_assoc = { yardsticks_lawful.1.0.plus_assoc };
 
     ghost never_itself = { Prim.search rules };
 
