@@ -1,19 +1,18 @@
 -- The numbers of the cells, copied row by row.
-use Rattle.std.proofs.Common.{◌≡◌, ℕ, suc, ◌+◌, ◌<◌, ◌≤◌, min, max, Bool, true, false, cond, ◌&&◌, leb, ◌≢◌, get_or, sym, refl, ap, ◌∙◌, inl, inr, arith}
+use Rattle.std.proofs.Common.{◌≡◌, ℕ, ◌+◌, ◌<◌, ◌≤◌, min, max, Bool, true, false, cond, ◌&&◌, ◌≢◌, get_or, sym, ap, ◌∙◌, inl, inr, arith}
 use Rattle.std.proofs.lemmas.Bool.{cases_Bool, cases_order, cases_eq}
 use Rattle.std.proofs.lemmas.Bool.Decides.{nat_tests}
-use Rattle.rules.specs.declared.Mark.{Mark}
 use Rattle.rules.specs.declared.Mark.TheVariants.{Gap}
 use Rattle.rules.specs.Sheets.{same_pair}
 use Rattle.marks.specs.declared.marks.Marks.{Marks}
 use Rattle.marks.specs.Cells.{pair}
 use Rattle.marks.specs.Numbers.{units_of, numbers_of, Put}
-use Rattle.marks.proofs.Cells.{Two, two}
+use Rattle.marks.proofs.Cells.{two}
 use Rattle.marks.proofs.Laws.{symmetric}
 use Rattle.cells.specs.declared.triangle.Triangle.{Triangle}
 use Rattle.cells.specs.Places.{place}
 use Rattle.cells.specs.Read.{mark_at}
-use Rattle.cells.specs.Gaps.{untied_sheet, low_value, RowCopied, AsNumbers}
+use Rattle.cells.specs.Gaps.{low_value, RowCopied, AsNumbers}
 
 -- the pairs of a and the labels after it up to i are copied
 pub record RowSoFar (t : Triangle) (a i : ℕ) (m k : Marks) : Type 0 where

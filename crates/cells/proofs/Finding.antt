@@ -1,8 +1,7 @@
 -- The first gap, found pair by pair.
-use Rattle.std.proofs.Common.{◌≡◌, ℕ, suc, ◌+◌, ◌<◌, ◌≤◌, Bool, true, false, cond, List, [], ◌∷◌, ◌++◌, map, drop, Some, None, sym, refl, ap, ◌∙◌, arith}
+use Rattle.std.proofs.Common.{◌≡◌, ℕ, ◌+◌, ◌<◌, ◌≤◌, Bool, true, cond, List, [], ◌++◌, map, drop, sym, ap, ◌∙◌, arith}
 use Rattle.std.proofs.lemmas.Bool.Decides.{nat_tests}
 use Rattle.std.proofs.lemmas.List.{map-append, at_drop_all}
-use Rattle.rules.specs.declared.Mark.{Mark}
 use Rattle.rules.specs.declared.Mark.TheVariants.{Gap, Number}
 use Rattle.rules.specs.Units.{labels}
 use Rattle.rules.specs.Sheets.{is_gap, pairs_with, pairs_in}
@@ -12,7 +11,7 @@ use Rattle.rules.proofs.Labels.{labels_length, labels_from}
 use Rattle.marks.specs.Cells.{pair}
 use Rattle.cells.specs.declared.triangle.Triangle.{Triangle}
 use Rattle.cells.specs.Read.{mark_at}
-use Rattle.cells.specs.Gaps.{untied_sheet, row_outcome, row_decided, pairs_decided}
+use Rattle.cells.specs.Gaps.{untied_sheet, row_decided, pairs_decided}
 
 -- no label is left
 none_left : (n i : ℕ) → n ≤ i → drop i (labels n) ≡ []

@@ -1,5 +1,5 @@
 -- The sheet that cells stand for, its first gap, and its marks as numbers.
-use Rattle.std.specs.Prelude.{◌≡◌, ℕ, ◌<◌, ◌≤◌, Bool, true, false, cond, map, drop, Some, None, Option, MatchOption, ◌≢◌, nat_le}
+use Rattle.std.specs.Prelude.{◌≡◌, ℕ, ◌<◌, ◌≤◌, Bool, false, cond, map, drop, Some, None, Option, ◌≢◌, nat_le}
 use Rattle.rules.specs.declared.Mark.{Mark}
 use Rattle.rules.specs.declared.Mark.TheVariants.{Gap, Number}
 use Rattle.rules.specs.Units.{labels}
@@ -7,7 +7,7 @@ use Rattle.rules.specs.Sheets.{Contents, pairs_with, pairs_in}
 use Rattle.rules.specs.Calls.{Outcome, accepted, refused, gap, decide, gap_test, gap_tests}
 use Rattle.marks.specs.declared.marks.Marks.{Marks}
 use Rattle.marks.specs.Numbers.{units_of, numbers_of}
-use Rattle.marks.specs.Cells.{pair, is_size}
+use Rattle.marks.specs.Cells.{pair}
 use Rattle.cells.specs.declared.triangle.Triangle.{Triangle}
 use Rattle.cells.specs.Read.{mark_at}
 

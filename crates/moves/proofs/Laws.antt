@@ -12,5 +12,5 @@ use Rattle.moves.specs.declared.kind.MoveKind.{Ghosts}
 use Rattle.moves.specs.Kinds.{moves_of}
 
 pub lawful : {M : Type 1} {U : Ura M} {𝓛 : Logic U} {P : Model U 𝓛.H} {R : Running U 𝓛.H P} {E : Env} {S : RattleType}
-    {k : Ghosts S.Denot} {D : Dict} → Met U 𝓛.H P 𝓛 R E S k D → LawfulMoves (moves_of k)
+    {k : Ghosts S.Denot} {D : Dict} → Met 𝓛 P R E S k D → LawfulMoves (moves_of k)
 lawful m = record { few = m.few; order_again = m.order_again }

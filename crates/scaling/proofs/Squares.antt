@@ -1,6 +1,6 @@
 -- Sums of squares: of the marks of a unit and the labels before it, of the marks of all pairs, and their bounds.
 use Rattle.std.proofs.Common.{◌≡◌, ℕ, suc, ◌+◌, ◌*◌, ◌≤◌, List, [], ◌∷◌, ◌++◌, ℤ, pos, negsuc, ◌+ℤ◌, nat_abs, sym, refl, ap, ◌∙◌, add-one, arith}
-use Rattle.std.proofs.lemmas.Nat.{mul_le}
+use Rattle.std.proofs.lemmas.Nat.{mul-le}
 use Rattle.rules.specs.Units.{labels, sum_ℤ}
 use Rattle.rules.specs.Sheets.{pairs_in}
 use Rattle.rules.specs.Scaling.{square}
@@ -14,7 +14,7 @@ square_size (pos a) = refl
 square_size (negsuc a) = refl
 
 pub square_low : (x m : ℕ) → x ≤ m → x * x ≤ m * m
-square_low x m h = mul_le x x m m h h
+square_low x m h = mul-le x x m m h h
 
 -- a sum over the labels, with the next
 pub next_label : (f : ℕ → ℤ) (k s d : ℕ) → pos s ≡ sum_ℤ f (labels k) → pos d ≡ f (k + 1) → pos (s + d) ≡ sum_ℤ f (labels (k + 1))

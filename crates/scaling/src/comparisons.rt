@@ -58,7 +58,8 @@ fn kept(marks: &Marks, row: &[u8]) -> u32
 
 // How many comparisons an order of n units has.
 fn all_comparisons(n: u32) -> u32
-    requires { (2 ≤ n) × (n ≤ 20) }
+    requires least { 2 ≤ n }
+    requires most { n ≤ 20 }
     ensures { result ≡ n * (n - 1) * (n - 2) / 3 }
 {
     n * (n - 1) * (n - 2) / 3

@@ -67,7 +67,9 @@ fn displace(marks: &Marks, order: &[u8], list: &mut [i64]) -> u64
 
 // So many times one sum of squares, minus another.
 fn difference(units: usize, marks: u64, displaced: u64) -> i64
-    requires { (units ≤ 20) × ((marks ≤ 40000000000) × (displaced ≤ 800000000000)) }
+    requires units { units ≤ 20 }
+    requires marks { marks ≤ 40000000000 }
+    requires displaced { displaced ≤ 800000000000 }
     ensures { result ≡ (pos units *ℤ pos marks) -ℤ pos displaced }
 {
     (units as u64 * marks) as i64 - displaced as i64

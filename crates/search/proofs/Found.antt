@@ -1,7 +1,7 @@
 -- What the first cells of filled tables say, and which fault the tests find.
 use Rattle.std.proofs.Common.{◌≡◌, ℕ, ◌^◌, ◌≤◌, Bool, true, false, cond, not, leb, List, length, get_or, ℤ, Some, None, sym, ap, ◌∙◌, subst, arith}
 use Rattle.std.proofs.lemmas.Nat.{pow_pos}
-use Rattle.std.proofs.lemmas.Bool.{cond-true, not-true, eq-eqb, and_parts, leb-true}
+use Rattle.std.proofs.lemmas.Bool.{cond-true, not-true, not-false, eq-eqb, and_parts, leb-true}
 use Rattle.std.proofs.lemmas.Bool.Decides.{nat_tests}
 use Rattle.rules.specs.Orders.{closed, circular}
 use Rattle.rules.specs.Yardsticks.{Merit, zeros}
@@ -11,7 +11,7 @@ use Rattle.marks.specs.declared.marks.Marks.{Marks}
 use Rattle.marks.specs.declared.ties.Ties.{Ties}
 use Rattle.marks.specs.Numbers.{units_of}
 use Rattle.marks.specs.Tied.{tied_units, tied_of}
-use Rattle.search.specs.declared.best.SearchFault.TheVariants.{Number}
+use Rattle.search.specs.declared.best.SearchFault.TheVariants.{Circle, Number}
 use Rattle.search.specs.Tables.{Filled}
 use Rattle.search.specs.Above.{Sound}
 use Rattle.search.specs.Best.{short, numbered, first_fault, Lent, best_count, fault}
@@ -60,3 +60,15 @@ pub number_left : {T : Type 0} (numbers : T → List ℤ) (y : Merit) (m : Marks
 number_left numbers y m t k s c b p e f =
     let h : numbered (best_count numbers y m t) k ≡ b = ap (λ (n : ℕ). numbered n k) (sym e) ∙ sym f in
     λ i. first_fault (eq-eqb (tied_units t) (units_of m) p.sound.same i) (p.enough i) (p.sound.straight i) (h i)
+
+-- the first two tests are passed, and there is a circle
+pub circle_left : {T : Type 0} (numbers : T → List ℤ) (y : Merit) (m : Marks) (t : Ties) (k : ℕ) (s : Lent T) (u v : ℕ)
+    → u ≡ tied_units t → v ≡ units_of m → u ≡ v → false ≡ short v (length s.totals) (length s.counts) (length s.row)
+    → false ≡ not (circular (tied_of t) (tied_units t)) → fault numbers y m t k s ≡ Some Circle
+circle_left numbers y m t k s u v e f g h q =
+    let same : tied_units t ≡ units_of m = sym e ∙ g ∙ f in
+    let enough : short (units_of m) (length s.totals) (length s.counts) (length s.row) ≡ false =
+    ap (λ (n : ℕ). short n (length s.totals) (length s.counts) (length s.row)) (sym f) ∙ sym h in
+    let circle : circular (tied_of t) (units_of m) ≡ true =
+    subst (λ (n : ℕ). circular (tied_of t) n ≡ true) same (not-false (circular (tied_of t) (tied_units t)) (sym q)) in
+    λ i. first_fault (eq-eqb (tied_units t) (units_of m) same i) (enough i) (circle i) (numbered (best_count numbers y m t) k)

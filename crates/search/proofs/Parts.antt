@@ -5,8 +5,8 @@ use lib.Bits.{bit_and, and_step, and_le_r, and_shr, and_mod, and_zero_l}
 use Rattle.std.specs.List.{list_all}
 use Rattle.std.proofs.lemmas.Nat.{shr-shr}
 use Rattle.std.proofs.lemmas.Bool.{both_ways, cases_eq, eqb-true, eq-eqb}
-use Rattle.rules.specs.Units.{label, labels, has}
-use Rattle.rules.specs.Orders.{follows, closed}
+use Rattle.rules.specs.Units.{labels, has}
+use Rattle.rules.specs.Orders.{follows}
 use Rattle.rules.proofs.Tests.{or_then, then_or, refuted}
 use Rattle.rules.proofs.Sets.{label_low, label_from}
 use Rattle.rules.proofs.Members.{In, in_parts, all_of_in, in_all_of}

@@ -1,11 +1,11 @@
 -- Placing the first ready unit again and again.
-use Rattle.std.proofs.Common.{◌≡◌, ℕ, zero, suc, ◌+◌, ◌-◌, ◌^◌, ◌<◌, ◌≤◌, Bool, true, false, cond, not, ◌↔◌, List, [], ◌∷◌, ◌++◌, filter, sym, refl, ap, ◌∙◌, subst, inl, inr, arith}
+use Rattle.std.proofs.Common.{◌≡◌, ℕ, zero, suc, ◌-◌, ◌^◌, ◌<◌, Bool, true, false, cond, not, ◌↔◌, List, [], ◌∷◌, ◌++◌, filter, sym, refl, ap, ◌∙◌, subst, inl, inr, arith}
 use Rattle.std.proofs.lemmas.Nat.{pow_pos}
-use Rattle.std.proofs.lemmas.Bool.{both_ways, cases_eq, cases_Bool, eqb-true, eq-eqb, ne_eqb}
+use Rattle.std.proofs.lemmas.Bool.{both_ways, cases_eq, cases_Bool, eq-eqb, ne_eqb}
 use Rattle.rules.specs.Units.{label, labels, has, with_unit, size}
 use Rattle.rules.specs.Orders.{Order, Keeps, ready, ready_units, circular}
 use Rattle.rules.specs.Recurrence.{OnLabels, first_placed, grown, placeable}
-use Rattle.rules.proofs.Tests.{refuted, forced}
+use Rattle.rules.proofs.Tests.{forced}
 use Rattle.rules.proofs.Sets.{with_below, size_with, size_none}
 use Rattle.rules.proofs.Members.{In}
 use Rattle.rules.proofs.Tally.{filter_labels}

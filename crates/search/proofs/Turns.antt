@@ -1,7 +1,7 @@
 -- A turn over the units that pass a test, taken over all labels one after another.
-use Rattle.std.proofs.Common.{◌≡◌, ℕ, zero, suc, ◌+◌, ◌-◌, ◌<◌, ◌≤◌, Bool, true, false, cond, ltb, List, [], ◌∷◌, length, get_or, drop, filter, sym, refl, ap, ◌∙◌, inl, inr, add-one, arith, length-append, drop-cons}
+use Rattle.std.proofs.Common.{◌≡◌, ℕ, ◌+◌, ◌-◌, ◌<◌, ◌≤◌, Bool, true, false, cond, ltb, List, [], ◌∷◌, length, drop, filter, sym, refl, ap, ◌∙◌, inl, inr, arith}
 use lib.Seq.{drop-length}
-use Rattle.std.proofs.lemmas.Bool.{cases_eq, ltb-true, ltb-false, lt-ltb, le-ltb}
+use Rattle.std.proofs.lemmas.Bool.{ltb-true, ltb-false, lt-ltb, le-ltb}
 use Rattle.rules.specs.Units.{labels, sum_over}
 use Rattle.rules.specs.Recurrence.{turn}
 use Rattle.rules.proofs.Labels.{labels_length, labels_from}

@@ -56,7 +56,7 @@ pub fn best<Y: Yardstick>(
     counts: &mut [u64],
     row: &mut [u8],
 ) -> Result<(Y::Total, u64), SearchFault>
-    ensures { Searches Y.Yardstick.numbers (merit_of Y.Yardstick) marks.now ties.now k (record { totals = totals.entry.now; counts = counts.old; row = row.old }) (record { totals = totals.exit.now; counts = counts.new; row = row.new }) result }
+    ensures { Searches Y.Yardstick.numbers (merit_of Y.Yardstick) marks.now ties.now k (record { totals = totals.old; counts = counts.old; row = row.old }) (record { totals = totals.new; counts = counts.new; row = row.new }) result }
 {
     let units = marks.units();
     if ties.units() != units {

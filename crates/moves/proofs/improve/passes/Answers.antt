@@ -40,7 +40,7 @@ loop-i-preserved g c =
     let back = over.put_back _ _ _ _ w.tried (c.make.ensures.kept ∙ c.new-trial.ensures.kept) (c.make.ensures.units ∙ c.new-trial.ensures.units)
     c.units-units.ensures c.make.ensures.before c.new-trial.ensures.before c.drop-trial-in-loop-i.ensures in
     let lent = c.make.ensures.lent ∙ c.new-trial.ensures.lent in
-    over.scanned_more _ _ _ _ g.Y.Yardstick.numbers c.args.limit c.loop-i.invariant w.tried c.in-default.ensures _ (search rules)
+    over.scanned_more _ _ _ _ g.Y.Yardstick.numbers c.args.limit c.loop-i.invariant w.tried c.in_default.ensures _ (search rules)
 
 pub pass-preserved : goal.pass-preserved
 pass-preserved g c =

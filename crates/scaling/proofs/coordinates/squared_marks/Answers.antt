@@ -6,6 +6,6 @@ use Rattle.scaling.proofs.coordinates.squared_marks.Goals as goal
 
 pub loop-k-preserved : goal.loop-k-preserved
 loop-k-preserved c = (
-  next_pairs (λ q. square (pos (numbers_of c.args.marks.now q.0 q.1))) c.loop-k.k _ _ c.loop-k.invariant.0 c.squares-before-sum.ensures.value,
-  omega (arith, c.squares-before-sum.ensures.low),
+  next_pairs (λ q. square (pos (numbers_of c.args.marks.now q.0 q.1))) c.loop-k.k _ _ c.loop-k.invariant.0 c.squares_before-sum.ensures.value,
+  omega (arith, c.squares_before-sum.ensures.low),
 )

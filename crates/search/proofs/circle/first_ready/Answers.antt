@@ -1,5 +1,4 @@
-use Rattle.std.proofs.Common.{◌≡◌, ℕ, suc, ◌+◌, true, false, List, ◌∷◌, filter, sym, ◌∙◌, subst, add-one, arith}
-use Rattle.rules.specs.Units.{labels}
+use Rattle.std.proofs.Common.{◌≡◌, ◌+◌, true, false, sym, add-one, arith}
 use Rattle.rules.specs.Orders.{ready}
 use Rattle.marks.specs.Tied.{tied_of, tied_units}
 use Rattle.search.proofs.Placing.{first_of, none_more}

@@ -1,4 +1,4 @@
-use Rattle.std.proofs.Common.{◌≡◌, ℕ, suc, ◌+◌, ◌^◌, ◌≤◌, true, false, sym, subst, add-one, arith, pow_mono}
+use Rattle.std.proofs.Common.{◌≡◌, ◌^◌, ◌≤◌, true, false, sym, add-one, arith, pow_mono}
 use Rattle.rules.specs.Recurrence.{placeable}
 use Rattle.rules.proofs.Sets.{label_low, label_high, label_from}
 use Rattle.marks.specs.Tied.{tied_of, tied_units}
@@ -7,8 +7,8 @@ use Rattle.search.proofs.Placing as placing
 use Rattle.search.proofs.Placing.{Placed}
 use Rattle.search.proofs.circle.has_order.Goals as goal
 
-pub with-unit-placed-requires : goal.with-unit-placed-requires
-with-unit-placed-requires c =
+pub with_unit-placed-requires : goal.with_unit-placed-requires
+with_unit-placed-requires c =
     let t = c.args.ties.now in
     let n = tied_units t in
     let j = c.in-Some.unit in
@@ -27,7 +27,7 @@ loop-i-preserved c =
     let t = c.args.ties.now in
     let n = tied_units t in
     let w = c.in-Some.ensures in
-    rw (add-one, c.with-unit-placed.ensures)
+    rw (add-one, c.with_unit-placed.ensures)
     (placing.one_placed (tied_of t) n _ _ c.loop-i.invariant (omega arith) c.in-Some.unit w.0 w.1)
 
 pub returns-in-None : goal.returns-in-None

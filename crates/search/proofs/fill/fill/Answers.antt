@@ -11,7 +11,7 @@ cell-total-requires g c =
     let y = g.Y.Yardstick in
     let m = c.args.marks.now in
     let e : c.loop-a.a ≡ c.loop-a.a - 1 + 1 = omega arith in
-    let size = c.set-count-a.ensures ∙ ap (λ (k : ℕ). 2 ^ k) c.units.ensures in
+    let size = c.set_count-a.ensures ∙ ap (λ (k : ℕ). 2 ^ k) c.units.ensures in
     record {
       sound = c.requires.sound;
       within = omega (arith, c.loop-a.auto.a);
@@ -27,7 +27,7 @@ pub loop-a-init : goal.loop-a-init
 loop-a-init g c =
     let y = g.Y.Yardstick in
     let m = c.args.marks.now in
-    let size = c.set-count-a.ensures ∙ ap (λ (k : ℕ). 2 ^ k) c.units.ensures in (
+    let size = c.set_count-a.ensures ∙ ap (λ (k : ℕ). 2 ^ k) c.units.ensures in (
       subst (λ (k : ℕ). FilledFrom y.numbers (merit_of y) (numbers_of m) (tied_of c.args.ties.now) (units_of m) k c.args.totals.now c.args.counts.now)
           (sym size) (none_filled y.numbers (merit_of y) (numbers_of m) (tied_of c.args.ties.now) (units_of m) c.args.totals.now c.args.counts.now),
       refl,
@@ -39,7 +39,7 @@ loop-a-preserved g c =
     let y = g.Y.Yardstick in
     let m = c.args.marks.now in
     let e : c.loop-a.a ≡ c.loop-a.a - 1 + 1 = omega arith in
-    let size = c.set-count-a.ensures ∙ ap (λ (k : ℕ). 2 ^ k) c.units.ensures in
+    let size = c.set_count-a.ensures ∙ ap (λ (k : ℕ). 2 ^ k) c.units.ensures in
     let below : c.loop-a.a - 1 < 2 ^ units_of c.args.marks.now = omega (arith, c.loop-a.auto.a) in
     let room : Room (units_of m) c.loop-a.totals c.loop-a.counts = record {
       for_totals = omega (arith, c.loop-a.auto.totals, c.requires.room.for_totals);

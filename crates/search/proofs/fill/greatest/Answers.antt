@@ -1,10 +1,5 @@
-use Rattle.std.proofs.Common.{◌≡◌, ℕ, ◌+◌, ◌^◌, ◌<◌, ◌≤◌, Bool, true, false, List, length, ℤ, filter, sym, refl, ap, ◌∙◌, subst, subst₂, arith}
-use Rattle.rules.specs.Units.{label, labels, with_unit}
+use Rattle.std.proofs.Common.{ℕ, ◌+◌, ◌<◌, false, List, ℤ, sym, ap, ◌∙◌, subst₂, arith}
 use Rattle.rules.specs.Yardsticks.{Within}
-use Rattle.rules.specs.Orders.{ready}
-use Rattle.rules.specs.Ranking.{count_cell}
-use Rattle.rules.specs.Recurrence.{led}
-use Rattle.rules.proofs.Sets.{label_from}
 use Rattle.marks.specs.Numbers.{units_of, numbers_of}
 use Rattle.marks.specs.Tied.{tied_of}
 use Rattle.yardsticks.specs.Merits.{merit_of}
@@ -14,8 +9,8 @@ use Rattle.search.proofs.Cells.{Here}
 use Rattle.search.proofs.fill.greatest.Goals as goal
 use Rattle.search.proofs.fill.greatest.Goals.{then-ready+then-not-found, then-ready+else-not-found+then-exceeds, then-ready+else-not-found+else-exceeds+then-not-exceeds, then-ready+else-not-found+else-exceeds+else-not-exceeds, else-ready}
 
-pub with-unit-next-requires : goal.with-unit-next-requires
-with-unit-next-requires g c =
+pub with_unit-next-requires : goal.with_unit-next-requires
+with_unit-next-requires g c =
     let h : Here (merit_of g.Y.Yardstick) c.args.marks.now c.args.ties.now c.args.placed =
     record { law = lawful g.met.Y.Yardstick; sound = c.requires.sound; below = c.requires.within; shut = c.requires.shut } in
     let w = cells.next c.requires.sound c.args.placed c.loop-i.i (omega arith) c.if-ready.ensures in
@@ -35,8 +30,8 @@ bounds-totals-next g c =
     let w = cells.next c.requires.sound c.args.placed c.loop-i.i (omega arith) c.if-ready.ensures in
     omega (arith, cells.next_below h w, c.requires.room.for_totals)
 
-pub offset-bounds-totals-next : goal.offset-bounds-totals-next
-offset-bounds-totals-next g c =
+pub offset_bounds-totals-next : goal.offset_bounds-totals-next
+offset_bounds-totals-next g c =
     let h : Here (merit_of g.Y.Yardstick) c.args.marks.now c.args.ties.now c.args.placed =
     record { law = lawful g.met.Y.Yardstick; sound = c.requires.sound; below = c.requires.within; shut = c.requires.shut } in
     let w = cells.next c.requires.sound c.args.placed c.loop-i.i (omega arith) c.if-ready.ensures in
@@ -56,16 +51,16 @@ add-total-requires g c =
     let w = cells.next c.requires.sound c.args.placed c.loop-i.i (omega arith) c.if-ready.ensures in
     let y = merit_of g.Y.Yardstick in
     subst₂ (λ (u v : List ℤ). Within 21 y.caps u × (Within 21 y.caps v × Within 21 y.caps (y.plus u v)))
-    (sym c.step.ensures) (sym (cells.read_total h w c.requires.above c.with-unit-next.ensures c.index-totals-next.is)) (cells.near h w)
+    (sym c.step.ensures) (sym (cells.read_total h w c.requires.above c.with_unit-next.ensures c.index-totals-next.is)) (cells.near h w)
 
-pub overflow-add-count : goal.overflow-add-count
-overflow-add-count g c =
+pub overflow_add-count : goal.overflow_add-count
+overflow_add-count g c =
     let h : Here (merit_of g.Y.Yardstick) c.args.marks.now c.args.ties.now c.args.placed =
     record { law = lawful g.met.Y.Yardstick; sound = c.requires.sound; below = c.requires.within; shut = c.requires.shut } in
     let w = cells.next c.requires.sound c.args.placed c.loop-i.i (omega arith) c.if-ready.ensures in
     omega (
       arith,
-      cells.read_count h w c.requires.above c.with-unit-next.ensures,
+      cells.read_count h w c.requires.above c.with_unit-next.ensures,
       cells.fits h c.loop-i.i (omega arith) c.loop-i.invariant w.free c.if-not-found.false,
     )
 
@@ -87,22 +82,22 @@ loop-i-preserved g c =
     elim c.if-ready.branch [
       | then-ready+then-not-found w ↦ (
           let n = cells.next c.requires.sound c.args.placed i l (sym w.if-ready.true ∙ c.ready.ensures) in
-          let total = cells.told h n c.requires.above w.with-unit-next.ensures w.index-totals-next.is w.step.ensures w.add-total.ensures in
-          cells.moved w.found-is (ap numbers w.best-is ∙ total) (w.count-is ∙ cells.read_count h n c.requires.above w.with-unit-next.ensures)
+          let total = cells.told h n c.requires.above w.with_unit-next.ensures w.index-totals-next.is w.step.ensures w.add-total.ensures in
+          cells.moved w.found-is (ap numbers w.best-is ∙ total) (w.count-is ∙ cells.read_count h n c.requires.above w.with_unit-next.ensures)
           (cells.first h i l inv n.free w.if-not-found.true))
       | then-ready+else-not-found+then-exceeds w ↦ (
           let n = cells.next c.requires.sound c.args.placed i l (sym w.if-ready.true ∙ c.ready.ensures) in
-          let total = cells.told h n c.requires.above w.with-unit-next.ensures w.index-totals-next.is w.step.ensures w.add-total.ensures in
-          cells.moved (w.found-is ∙ w.if-not-found.false) (ap numbers w.best-is ∙ total) (w.count-is ∙ cells.read_count h n c.requires.above w.with-unit-next.ensures)
+          let total = cells.told h n c.requires.above w.with_unit-next.ensures w.index-totals-next.is w.step.ensures w.add-total.ensures in
+          cells.moved (w.found-is ∙ w.if-not-found.false) (ap numbers w.best-is ∙ total) (w.count-is ∙ cells.read_count h n c.requires.above w.with_unit-next.ensures)
           (cells.above h i l inv n.free w.if-not-found.false (ap (λ (u : List ℤ). y.exceeds u t) (sym total) ∙ sym w.exceeds.ensures ∙ w.if-exceeds.true)))
       | then-ready+else-not-found+else-exceeds+then-not-exceeds w ↦ (
           let n = cells.next c.requires.sound c.args.placed i l (sym w.if-ready.true ∙ c.ready.ensures) in
-          let total = cells.told h n c.requires.above w.with-unit-next.ensures w.index-totals-next.is w.step.ensures w.add-total.ensures in
-          cells.moved (w.found-is ∙ w.if-not-found.false) (ap numbers w.best-is) (w.count-is ∙ ap (λ (z : ℕ). c.loop-i.count + z) (cells.read_count h n c.requires.above w.with-unit-next.ensures))
+          let total = cells.told h n c.requires.above w.with_unit-next.ensures w.index-totals-next.is w.step.ensures w.add-total.ensures in
+          cells.moved (w.found-is ∙ w.if-not-found.false) (ap numbers w.best-is) (w.count-is ∙ ap (λ (z : ℕ). c.loop-i.count + z) (cells.read_count h n c.requires.above w.with_unit-next.ensures))
           (cells.level h i l inv n.free w.if-not-found.false (ap (λ (u : List ℤ). y.exceeds u t) (sym total) ∙ sym w.exceeds.ensures ∙ w.if-exceeds.false) (ap (λ (u : List ℤ). y.exceeds t u) (sym total) ∙ sym w.exceeds-else-exceeds.ensures ∙ w.if-not-exceeds.true)))
       | then-ready+else-not-found+else-exceeds+else-not-exceeds w ↦ (
           let n = cells.next c.requires.sound c.args.placed i l (sym w.if-ready.true ∙ c.ready.ensures) in
-          let total = cells.told h n c.requires.above w.with-unit-next.ensures w.index-totals-next.is w.step.ensures w.add-total.ensures in
+          let total = cells.told h n c.requires.above w.with_unit-next.ensures w.index-totals-next.is w.step.ensures w.add-total.ensures in
           cells.moved (w.found-is ∙ w.if-not-found.false) (ap numbers w.best-is) w.count-is
           (cells.below h i l inv n.free w.if-not-found.false (ap (λ (u : List ℤ). y.exceeds u t) (sym total) ∙ sym w.exceeds.ensures ∙ w.if-exceeds.false) (ap (λ (u : List ℤ). y.exceeds t u) (sym total) ∙ sym w.exceeds-else-exceeds.ensures ∙ w.if-not-exceeds.false)))
       | else-ready w ↦ cells.moved w.found-is (ap numbers w.best-is) w.count-is

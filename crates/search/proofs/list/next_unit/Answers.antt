@@ -20,15 +20,15 @@ pub returns-then-left-ways : goal.returns-then-left-ways
 returns-then-left-ways g c =
     sym (c.loop-i.invariant
     ∙ turn_here (ways_with (merit_of g.Y.Yardstick) c.args.marks.now c.args.ties.now c.args.placed)
-    (units_of c.args.marks.now) c.loop-i.i c.loop-i.left (omega (arith, c.units-i-end.ensures)) (omega (arith, c.ways-with-ways.ensures)))
+    (units_of c.args.marks.now) c.loop-i.i c.loop-i.left (omega (arith, c.units-i-end.ensures)) (omega (arith, c.ways_with-ways.ensures)))
 
 pub loop-i-preserved : goal.loop-i-preserved
 loop-i-preserved g c =
     let n = units_of c.args.marks.now in
     c.loop-i.invariant
     ∙ turn_past (ways_with (merit_of g.Y.Yardstick) c.args.marks.now c.args.ties.now c.args.placed)
-    n c.loop-i.i c.loop-i.left (omega (arith, c.units-i-end.ensures)) (omega (arith, c.ways-with-ways.ensures))
-    ∙ ap (λ (q : ℕ). turn (ways_with (merit_of g.Y.Yardstick) c.args.marks.now c.args.ties.now c.args.placed) (drop (c.loop-i.i + 1) (labels n)) (c.loop-i.left - q)) (sym c.ways-with-ways.ensures)
+    n c.loop-i.i c.loop-i.left (omega (arith, c.units-i-end.ensures)) (omega (arith, c.ways_with-ways.ensures))
+    ∙ ap (λ (q : ℕ). turn (ways_with (merit_of g.Y.Yardstick) c.args.marks.now c.args.ties.now c.args.placed) (drop (c.loop-i.i + 1) (labels n)) (c.loop-i.left - q)) (sym c.ways_with-ways.ensures)
 
 pub returns : goal.returns
 returns g c =

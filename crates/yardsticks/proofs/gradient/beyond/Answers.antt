@@ -5,14 +5,14 @@ use Rattle.yardsticks.specs.Gradients.{signs_of, rises_of}
 use Rattle.yardsticks.proofs.Sums.{counted, signs_low, rises_low}
 use Rattle.yardsticks.proofs.gradient.beyond.Goals as goal
 
-pub returns-then-comes-later : goal.returns-then-comes-later
-returns-then-comes-later c =
+pub returns-then-comes_later : goal.returns-then-comes_later
+returns-then-comes_later c =
     let p = numbers_of c.args.marks.now in
     let low = c.args.marks.now.low in
     let i = c.args.i in
     let j = c.args.unit in
     let k = c.args.k in
-    let later = sym c.comes-later.ensures ∙ c.if-comes-later.true in
+    let later = sym c.comes_later.ensures ∙ c.if-comes_later.true in
     let s = c.compared.ensures.signs ∙ (λ t. signs_of (c.mark.ensures t) (c.requires.0 t) (c.requires.1 t)) in
     let r = c.compared.ensures.rises ∙ (λ t. rises_of (c.mark.ensures t) (c.requires.0 t) (c.requires.1 t)) in
     record {

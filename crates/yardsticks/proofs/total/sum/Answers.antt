@@ -31,8 +31,8 @@ add-sum-requires g c =
       ),
     )
 
-pub with-unit-placed-requires : goal.with-unit-placed-requires
-with-unit-placed-requires g c =
+pub with_unit-placed-requires : goal.with_unit-placed-requires
+with_unit-placed-requires g c =
     adding.next_fits (merit_of g.Y.Yardstick) (lawful g.met.Y.Yardstick) c.args.marks.now c.args.order.now c.requires _ _ _ c.loop-label.invariant c.loop-label-test.true
 
 pub loop-label-init : goal.loop-label-init
@@ -46,7 +46,7 @@ loop-label-preserved g c =
     let y = merit_of g.Y.Yardstick in
     let u = g.Y.Yardstick.numbers c.loop-label.sum in
     subst₂ (λ (A : ℕ) (v : List ℤ). Sofar y c.args.marks.now c.args.order.now (c.loop-label.label-index + 1) A v)
-    (sym c.with-unit-placed.ensures) (sym (c.add-sum.ensures ∙ ap (λ (v : List ℤ). y.plus u v) c.step.ensures))
+    (sym c.with_unit-placed.ensures) (sym (c.add-sum.ensures ∙ ap (λ (v : List ℤ). y.plus u v) c.step.ensures))
     (adding.one_more y (lawful g.met.Y.Yardstick) c.args.marks.now c.args.order.now c.requires _ _ _ c.loop-label.invariant c.loop-label-test.true)
 
 pub returns : goal.returns

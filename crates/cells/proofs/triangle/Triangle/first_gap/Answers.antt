@@ -8,7 +8,7 @@ returns-in-Some c =
 
 pub loop-i-preserved : goal.loop-i-preserved
 loop-i-preserved c =
-    c.loop-i.invariant ∙ pairs_past c.args.units c.args.self.now c.loop-i.i (omega arith) (sym c.in-default.ensures)
+    c.loop-i.invariant ∙ pairs_past c.args.units c.args.self.now c.loop-i.i (omega arith) (sym c.in_default.ensures)
 
 pub returns : goal.returns
 returns c = sym (c.loop-i.invariant ∙ pairs_end c.args.units c.args.self.now c.loop-i.i (omega arith))

@@ -4,9 +4,9 @@ use Rattle.cells.proofs.triangle.Triangle.numbers.Goals as goal
 
 pub loop-i-preserved : goal.loop-i-preserved
 loop-i-preserved c =
-    more c.args.self.now c.args.units c.loop-i.i c.loop-i.marks c.copy-row.new.marks c.loop-i.invariant c.copy-row.ensures
+    more c.args.self.now c.args.units c.loop-i.i c.loop-i.marks c.copy_row.new.marks c.loop-i.invariant c.copy_row.ensures
 
 pub returns : goal.returns
 returns c =
-    let made = c.in-ok-marks.ensures in
+    let made = c.in_ok-marks.ensures in
     (made.0, all_copied c.args.self.now c.args.units c.loop-i.i c.loop-i.marks (omega (arith, made.1.size)) c.loop-i.invariant)

@@ -12,4 +12,4 @@ loop-i-preserved c = (
 )
 
 pub behind-more-requires : goal.behind-more-requires
-behind-more-requires c = (c.row-of-row.ensures, c.row-of-row.ensures c.loop-i.i (search rules))
+behind-more-requires c = (c.row_of-row.ensures, c.row_of-row.ensures c.loop-i.i (search rules))

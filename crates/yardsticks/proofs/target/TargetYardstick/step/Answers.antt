@@ -31,8 +31,8 @@ fits c =
     let e = factors c in
     fits_low _ (rw e (product_low c.args.marks.now c.args.placed c.args.unit c.requires.0 c.requires.1.0 c.requires.1.1))
 
-pub overflow-mul-result : goal.overflow-mul-result
-overflow-mul-result c = fits c
+pub overflow_mul-result : goal.overflow_mul-result
+overflow_mul-result c = fits c
 
 pub returns : goal.returns
 returns c = ap (λ (x : ℤ). x ∷ []) (to_z-of_z w64 _ (fits c) ∙ factors c)
