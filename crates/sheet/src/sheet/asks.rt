@@ -55,7 +55,7 @@ impl Sheet {
         counts: &mut [u64],
         row: &mut [u8],
     ) -> Result<(Y::Total, u64), AnswerFault>
-        ensures { Ranks (contents self.now) (merit_of Y.Yardstick) k (in_numbers Y.Yardstick.numbers (record { totals = totals.entry.now; counts = counts.old; row = row.old })) (rank_reply Y.Yardstick.numbers self.now.units row.new result) (in_numbers Y.Yardstick.numbers (record { totals = totals.exit.now; counts = counts.new; row = row.new })) }
+        ensures { Ranks (contents self.now) (merit_of Y.Yardstick) k (in_numbers Y.Yardstick.numbers (record { totals = totals.old; counts = counts.old; row = row.old })) (rank_reply Y.Yardstick.numbers self.now.units row.new result) (in_numbers Y.Yardstick.numbers (record { totals = totals.new; counts = counts.new; row = row.new })) }
     {
         if lacks_room(self.units, totals.len(), counts.len(), row.len()) {
             return Err(AnswerFault::Short);
