@@ -4,7 +4,7 @@ use Rattle.std.specs.List.{AllByRecursion}
 use Rattle.std.proofs.slice.Lists.{all_by_recursion_push}
 use Rattle.loglines.specs.Spans.{Spans, Free}
 use Rattle.loglines.specs.Lines.{fed, Unended, Lines, First, texts, OneCut}
-use Rattle.loglines.specs.Cuts.{span_free, cut_unique}
+use Rattle.loglines.proofs.Cuts.{span_free, cut_unique}
 
 pub none_left : (s : List ℕ) → length s ≡ 0 → s ≡ []
 none_left [] e = refl
