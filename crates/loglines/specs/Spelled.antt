@@ -12,7 +12,7 @@ use Rattle.loglines.specs.declared.command.YardstickLetter.TheVariants.{Spread, 
 use Rattle.loglines.specs.Words.{AllDigits, Numeral, IsWord}
 use Rattle.loglines.specs.Text.{mark_word, letter_word, Short, OfMark}
 
--- `AllDigits` and `value 10` are the library's digits and their number
+-- `AllDigits` and `digits_value 10` are the library's digits and their number
 pub own : IsNumeralModel AllDigits (digits_value 10)
 own = numerals_by_value _ tells_by_index
 
