@@ -10,7 +10,8 @@ use Rattle.loglines.specs.declared.fault.LogFault.{LogFault}
 use Rattle.loglines.specs.declared.fault.LogFault.TheVariants as fault
 use Rattle.loglines.specs.Text.{text_of, mark_word, letter_word, Short, OfMark, Numbers, Asks, Form, OneCommand}
 use Rattle.loglines.specs.Readers.{Whole, Front, Both, two_words}
-use Rattle.loglines.specs.Spellings.{short_fits, decimal_free, mark_free, mark_same, letter_free, letter_same}
+use Rattle.loglines.specs.Spelled.{short_fits, mark_same, letter_same}
+use Rattle.loglines.proofs.Spellings.{decimal_free, mark_free, letter_free}
 use Rattle.loglines.proofs.Fronts.{Telling, last_same, after_first, first_same, two_same}
 
 -- the kind of command that has the letter

@@ -5,8 +5,8 @@ use Rattle.loglines.specs.Spans.{Free}
 use Rattle.loglines.specs.Words.{bytes, IsWord, Cut, NoWord}
 use Rattle.loglines.specs.Text.{spaced}
 use Rattle.loglines.specs.Readers.{Front, NoFront}
-use Rattle.loglines.specs.Cuts.{word_free, cut_unique}
-use Rattle.loglines.specs.Spellings.{token_word}
+use Rattle.loglines.proofs.Cuts.{word_free, cut_unique}
+use Rattle.loglines.proofs.Spellings.{token_word}
 
 -- the text of a valid value has no space, and tells the value
 pub record Telling {X : Type 0} (f : X → List ℕ) (Valid : X → Type 0) : Type 0 where

@@ -1,3 +1,6 @@
+pub mod Digits
+pub mod Cuts
+pub mod Spellings
 pub mod Fronts
 pub mod Commands
 pub mod Feeds

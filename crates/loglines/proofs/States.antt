@@ -7,7 +7,7 @@ use Rattle.loglines.specs.declared.fault.LogFault.TheVariants as fault
 use Rattle.loglines.specs.Text.{Form, Numbers, Short}
 use Rattle.loglines.specs.Lines.{texts}
 use Rattle.loglines.specs.Readings.{Reading, Sized, Reads, open_after, Readings, OneReading}
-use Rattle.loglines.specs.Spellings.{short_fits, mark_fits}
+use Rattle.loglines.specs.Spelled.{short_fits, mark_fits}
 use Rattle.loglines.proofs.Commands.{one_command}
 use Rattle.loglines.proofs.Feeds.{texts_snoc, one_cut}
 

@@ -5,6 +5,4 @@ pub mod Text
 pub mod Readers
 pub mod Lines
 pub mod Readings
-pub mod Digits
-pub mod Spellings
-pub mod Cuts
+pub mod Spelled

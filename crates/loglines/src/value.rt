@@ -2,10 +2,9 @@ ghost use Rattle.std.specs.Prelude.{◌≡◌, ℕ, ◌<◌, List, decimal, Matc
 ghost use Rattle.loglines.specs.Words.{IsWord, Kind, bytes};
 ghost use Rattle.loglines.specs.Text.{mark_word, letter_word, spaced, Short, OfMark};
 ghost use Rattle.loglines.specs.Readers.{Whole, Front, NoFront, Both, two_words};
-ghost use Rattle.std.proofs.Common.{inl, inr, rules};
-ghost use Rattle.loglines.specs.Digits.{numeral_decimal};
+ghost use Rattle.loglines.specs.Spelled.{numeral_decimal, short_fits, mark_word_is, mark_same, mark_fits, letter_word_is, letter_same};
+ghost use Rattle.std.proofs.Common.{inl, inr};
 ghost use Rattle.std.proofs.lemmas.Fmt.{decimal_injective};
-ghost use Rattle.loglines.specs.Spellings.{short_fits, mark_word_is, mark_same, mark_fits};
 
 use crate::command::{Mark, YardstickLetter};
 use crate::scan::number;
@@ -71,9 +70,9 @@ impl WordValue for YardstickLetter {
 
     ghost valid = { λ _. Unit {0} };
 
-    ghost word = { Prim.search rules };
+    ghost word = { λ y _. letter_word_is y };
 
-    ghost same = { Prim.search rules };
+    ghost same = { λ x y _ _ e. letter_same x y e };
 
     fn from_token(token: Token) -> Option<YardstickLetter> {
         let Token::Letter(s) = token else {

@@ -1,4 +1,6 @@
 // Tests of reading a log: number words, every form, the state rule, words by their places, and whole logs.
+#![tactic(auto)]
+
 #[cfg(test)]
 mod forms;
 #[cfg(test)]

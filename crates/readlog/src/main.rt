@@ -1,4 +1,6 @@
 // Reads a day log from standard input, and prints what each line asks for and how many lines of each kind there are.
+#![tactic(auto)]
+
 use loglines::log::LONGEST_LOG;
 use logreport::report::report;
 use std::io::Read;

@@ -9,9 +9,9 @@ loop-line-smaller c = first_less _ _ _ c.in-Some.ensures
 
 pub loop-line-preserved : goal.loop-line-preserved
 loop-line-preserved c =
-    let pushed = chosen _ _ _ _ c.push.ensures.items (ap is_ok c.in-ok-push.was) in
+    let pushed = chosen _ _ _ _ c.push.ensures.items (ap is_ok c.in_ok-push.was) in
     subst (λ l. Sofar c.args.input.now l c.in-Some.tail.now) (sym (ap texts pushed ∙ texts_snoc _ _))
     (one_more _ _ _ _ _ c.loop-line.invariant c.in-Some.ensures)
 
 pub returns : goal.returns
-returns c = (omega arith, all_cut _ _ _ c.loop-line.invariant c.in-default.ensures)
+returns c = (omega arith, all_cut _ _ _ c.loop-line.invariant c.in_default.ensures)

@@ -1,21 +1,15 @@
-use Rattle.std.proofs.Common.{◌≡◌, ◌<◌, length, drop, ap, ◌∙◌, arith, rules}
+use Rattle.std.proofs.Common.{◌<◌, length, drop, ap, ◌∙◌, arith, rules}
 use Rattle.std.proofs.lemmas.List.{drop-drop}
 use Rattle.std.proofs.lemmas.Slice.{between_to_end}
-use Rattle.loglines.proofs.Feeds.{none_left, first_fed, first_unfed}
+use Rattle.loglines.proofs.Feeds.{none_left, first_fed}
 use Rattle.loglines.proofs.log.next_line.Goals as goal
 
-pub returns-then-is-empty : goal.returns-then-is-empty
-returns-then-is-empty c = none_left _ (search rules)
-
-pub returns-in-empty : goal.returns-in-empty
-returns-in-empty c =
-    let none : length c.split-at.result.1.now ≡ 0 = search rules in
-    let some : 0 < length c.args.rest.now = search rules in
-    first_unfed _ _ _ c.span.result c.span.ensures c.split-at.ensures.front (omega arith) some (none_left _ none)
+pub returns-then-is_empty : goal.returns-then-is_empty
+returns-then-is_empty c = none_left _ (search rules)
 
 pub returns-in-len1-up : goal.returns-in-len1-up
 returns-in-len1-up c =
-    let tail = c.split-at.result.1.now in
-    let some : 0 < length c.split-at.result.1.now = search rules in
-    first_fed _ _ _ c.span.result c.span.ensures c.split-at.ensures.front (omega arith)
-    (between_to_end tail 1 (length tail) (omega arith) ∙ ap (drop 1) c.split-at.ensures.back ∙ drop-drop 1 c.span.result c.args.rest.now)
+    let tail = c.split_at.result.1.now in
+    let some : 0 < length c.split_at.result.1.now = search rules in
+    first_fed _ _ _ c.span.result c.span.ensures c.split_at.ensures.front (omega arith)
+    (between_to_end tail 1 (length tail) (omega arith) ∙ ap (drop 1) c.split_at.ensures.back ∙ drop-drop 1 c.span.result c.args.rest.now)

@@ -6,8 +6,8 @@ use Rattle.loglines.proofs.log.read_lines.Goals as goal
 
 pub loop-line-preserved : goal.loop-line-preserved
 loop-line-preserved c =
-    read_more _ _ _ _ _ _ _ _ c.loop-line-test.true c.loop-line.invariant c.read-line-reading.ensures
-    c.in-ok-push.ensures.items c.open-after-opened.ensures
+    read_more _ _ _ _ _ _ _ _ c.loop-line-test.true c.loop-line.invariant c.read_line-reading.ensures
+    c.in_ok-push.ensures.items c.open_after-opened.ensures
 
 pub returns : goal.returns
 returns c = subst (λ ls. Readings false (texts ls) (vec_items c.loop-line.readings)) (take_all _ _ c.loop-line-test.false) c.loop-line.invariant.0

@@ -7,18 +7,18 @@ use Rattle.loglines.proofs.Feeds.{one_cut}
 use Rattle.loglines.proofs.States.{one_reading}
 use Rattle.loglines.proofs.log.read_log.Goals as goal
 
-pub returns-in-err-lines : goal.returns-in-err-lines
-returns-in-err-lines c =
-    let p = err_from_is_err_and c.from-residual.result c.from-residual.ensures.1 in
-    record { read = rw (p.1, p.2) c.in-err-lines.ensures; one_command = one_command; one_cut = one_cut; one_reading = one_reading }
+pub returns-in_err-lines : goal.returns-in_err-lines
+returns-in_err-lines c =
+    let p = err_from_is_err_and c.from_residual.result c.from_residual.ensures.1 in
+    record { read = rw (p.1, p.2) c.in_err-lines.ensures; one_command = one_command; one_cut = one_cut; one_reading = one_reading }
 
-pub returns-in-err-read-lines : goal.returns-in-err-read-lines
-returns-in-err-read-lines c =
-    let p = err_from_is_err_and c.from-residual-in-err-read-lines.result c.from-residual-in-err-read-lines.ensures.1 in
-    record { read = rw (p.1, p.2) c.in-ok-lines.ensures.0; one_command = one_command; one_cut = one_cut; one_reading = one_reading }
+pub returns-in_err-read_lines : goal.returns-in_err-read_lines
+returns-in_err-read_lines c =
+    let p = err_from_is_err_and c.from_residual-in_err-read_lines.result c.from_residual-in_err-read_lines.ensures.1 in
+    record { read = rw (p.1, p.2) c.in_ok-lines.ensures.0; one_command = one_command; one_cut = one_cut; one_reading = one_reading }
 
 pub returns : goal.returns
 returns c =
-    let cut = c.in-ok-lines.ensures in
-    let read = subst (λ ls. Readings false (texts ls) (vec_items c.in-ok-read-lines.field-0)) c.as-slice.ensures.value c.in-ok-read-lines.ensures in
+    let cut = c.in_ok-lines.ensures in
+    let read = subst (λ ls. Readings false (texts ls) (vec_items c.in_ok-read_lines.field-0)) c.as_slice.ensures.value c.in_ok-read_lines.ensures in
     record { read = record { few = cut.0; lines = _; cut = cut.1; read = read }; one_command = one_command; one_cut = one_cut; one_reading = one_reading }

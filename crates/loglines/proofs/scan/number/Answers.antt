@@ -1,16 +1,16 @@
 use Rattle.std.proofs.Common.{ap, ◌∙◌, arith, take_all}
 use Rattle.std.specs.Str.Parse.{digits_value}
-use Rattle.loglines.specs.Digits.{value_step, value_below}
+use Rattle.loglines.proofs.Digits.{value_step, value_below}
 use Rattle.loglines.proofs.scan.number.Goals as goal
 
-pub overflow-mul-n : goal.overflow-mul-n
-overflow-mul-n c = omega (arith, c.loop-b.invariant, value_below c.args.s.now c.loop-b.b-index 18 c.requires.0 (omega arith) (omega arith))
+pub overflow_mul-n : goal.overflow_mul-n
+overflow_mul-n c = omega (arith, c.loop-b.invariant, value_below c.args.s.now c.loop-b.b-index 18 c.requires.0 (omega arith) (omega arith))
 
-pub overflow-sub-b : goal.overflow-sub-b
-overflow-sub-b c = (c.requires.0 _ c.loop-b-test.true).0
+pub overflow_sub-b : goal.overflow_sub-b
+overflow_sub-b c = (c.requires.0 _ c.loop-b-test.true).0
 
-pub overflow-add-n : goal.overflow-add-n
-overflow-add-n c =
+pub overflow_add-n : goal.overflow_add-n
+overflow_add-n c =
     omega (arith, c.loop-b.invariant, c.requires.0 _ c.loop-b-test.true, value_below c.args.s.now c.loop-b.b-index 18 c.requires.0 (omega arith) (omega arith))
 
 pub loop-b-preserved : goal.loop-b-preserved

@@ -1,5 +1,5 @@
 use Rattle.std.proofs.Common.{refl, rules}
-use Rattle.loglines.specs.Spellings.{single}
+use Rattle.loglines.proofs.Spellings.{single}
 use Rattle.loglines.proofs.scan.token.Goals as goal
 
 pub returns-in-45 : goal.returns-in-45

@@ -7,11 +7,11 @@ use Rattle.logreport.proofs.report.report.Goals as goal
 
 pub returns-in-Ok : goal.returns-in-Ok
 returns-in-Ok c =
-    let rs = c.as-slice.result.now in
+    let rs = c.as_slice.result.now in
     record {
       text =
           IfOk-weaker c.listed.result (λ s. string_bytes s ≡ listing 1 rs ++ summary rs) (λ s. Reported c.args.input.now (string_bytes s))
-          (λ s e. inl (vec_items c.in-Ok.readings, c.in-Ok.ensures.read, e ∙ ap (λ l. listing 1 l ++ summary l) c.as-slice.ensures.value))
+          (λ s e. inl (vec_items c.in-Ok.readings, c.in-Ok.ensures.read, e ∙ ap (λ l. listing 1 l ++ summary l) c.as_slice.ensures.value))
           c.listed.ensures;
       one = one_report;
       once = each_once;

@@ -8,8 +8,8 @@ pub returns : goal.returns
 returns c =
     let before = string_bytes c.args.out.now in
     let rs = c.args.readings.now in
-    IfOk-weaker c.list-counts.result
-    (λ _. string_bytes c.list-counts.new.out ≡ string_bytes c.writeln.new.self ++ totals kinds rs)
-    (λ _. string_bytes c.list-counts.new.out ≡ before ++ summary rs)
-    (λ _ e. e ∙ ap (λ t. t ++ totals kinds rs) c.in-ok-writeln.ensures.bytes ∙ simp append_assoc)
-    c.list-counts.ensures
+    IfOk-weaker c.list_counts.result
+    (λ _. string_bytes c.list_counts.new.out ≡ string_bytes c.writeln.new.self ++ totals kinds rs)
+    (λ _. string_bytes c.list_counts.new.out ≡ before ++ summary rs)
+    (λ _ e. e ∙ ap (λ t. t ++ totals kinds rs) c.in_ok-writeln.ensures.bytes ∙ simp append_assoc)
+    c.list_counts.ensures

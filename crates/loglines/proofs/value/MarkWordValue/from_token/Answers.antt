@@ -1,7 +1,7 @@
 use Rattle.std.proofs.Common.{subst, rules}
 use Rattle.loglines.specs.Words.{Kind}
-use Rattle.loglines.specs.Digits.{decimal_numeral}
-use Rattle.loglines.specs.Spellings.{letter_no_mark}
+use Rattle.loglines.proofs.Digits.{decimal_numeral}
+use Rattle.loglines.proofs.Spellings.{letter_no_mark}
 use Rattle.loglines.proofs.value.MarkWordValue.from_token.Goals as goal
 
 pub returns-in-Digits : goal.returns-in-Digits

@@ -1,19 +1,15 @@
 -- Digits and the number that they write.
 use Rattle.std.specs.Prelude.{◌≡◌, ℕ, ◌+◌, ◌-◌, ◌*◌, ◌^◌, ◌<◌, ◌≤◌, List, length, take, decimal, slice_index}
-use Rattle.std.proofs.Common.{sym, ap, ◌∙◌, ⊎_elim, arith, rules, get_or-take, length-take-le}
+use Rattle.std.proofs.Common.{sym, ap, ◌∙◌, arith, rules, get_or-take, length-take-le}
 use Rattle.std.specs.Str.Parse.{digits_value}
 use Rattle.std.specs.Int.{IsInRange}
 use Rattle.std.specs.Char.{digit_value as digitValue}
-use Rattle.std.proofs.lemmas.Fmt.{digits_decimal, decimal_nonempty, length-decimal-le, first_decimal, decimal_digit, decimal-digits_value}
-use Rattle.std.proofs.lemmas.Str.Parse.{IsNumeralModel, numerals_by_value, tells_by_index, digits_value_short}
+use Rattle.std.proofs.lemmas.Fmt.{decimal-digits_value}
+use Rattle.std.proofs.lemmas.Str.Parse.{digits_value_short}
 use Rattle.std.proofs.lemmas.Int.Digits.{digits_value_more}
-use Rattle.std.proofs.str.Laws.{order}
 use Rattle.loglines.specs.Words.{AllDigits, Numeral}
 use Rattle.loglines.specs.Text.{Short}
-
--- `AllDigits` and `value 10` are the library's digits and their number
-pub own : IsNumeralModel AllDigits (digits_value 10)
-own = numerals_by_value _ tells_by_index
+use Rattle.loglines.specs.Spelled.{own}
 
 digit_value : (c : ℕ) → IsInRange 48 57 c → digitValue c ≡ c - 48
 digit_value c h = search rules
@@ -28,20 +24,7 @@ value_below s i k h le ik =
     let long = length-take-le i s le in
     digits_value_short own (take i s) k (λ j lt. let low : j < i = omega arith in rw (get_or-take i s j 0 low) (h j (omega arith))) (omega arith)
 
--- a number of at most 19 digits is written by a number word
-pub numeral_decimal : (n : ℕ) → Short n → Numeral (decimal n)
-numeral_decimal n h = record {
-  digits = digits_decimal own n (omega arith);
-  some = decimal_nonempty n (omega arith);
-  fits = length-decimal-le 19 n (omega arith) h (omega arith);
-  lean = λ e.
-      ⊎_elim
-      (λ lt. absurd (omega (arith, first_decimal n lt (omega arith))))
-      (λ le. let z : n ≡ 0 = omega arith in ap (λ k. length (decimal k)) z ∙ ap length (decimal_digit 0 (omega arith)))
-      (order 0 n);
-}
-
--- and a number word is what its number is written as
+-- a number word is what its number is written as
 pub decimal_numeral : (s : List ℕ) → Numeral s → Short (digits_value 10 s) × (s ≡ decimal (digits_value 10 s))
 decimal_numeral s h =
     let small : digits_value 10 s < 10 ^ 19 = digits_value_short own s 19 h.digits h.fits in
