@@ -1,5 +1,5 @@
 -- Cutting an input at its line feeds: what each turn keeps, and that the cut is the only one.
-use Rattle.std.proofs.Common.{◌≡◌, ℕ, suc, ◌+◌, ◌-◌, ◌<◌, ◌⊎◌, List, [], ◌∷◌, ◌++◌, length, get_or, take, drop, sym, refl, ap, ◌∙◌, subst, inl, inr, ⊎_elim, append_assoc, append-nil, add-one, arith, length-append, take-append-drop, drop-cons, get_or-append-add, Bor}
+use Rattle.std.proofs.Common.{◌≡◌, ℕ, suc, ◌+◌, ◌-◌, ◌<◌, ◌≤◌, ◌⊎◌, List, [], ◌∷◌, ◌++◌, length, get_or, take, drop, sym, refl, ap, ◌∙◌, subst, inl, inr, ⊎_elim, append_assoc, append-nil, add-one, arith, length-append, take-append-drop, take_all, drop-cons, get_or-append-add, Bor}
 use Rattle.std.specs.List.{AllByRecursion}
 use Rattle.std.proofs.slice.Lists.{all_by_recursion_push}
 use Rattle.loglines.specs.Spans.{Spans, Free}
@@ -21,6 +21,11 @@ module _ (rest line tail : List ℕ) (n : ℕ) (sp : Spans 10 rest n) (front : l
         feedless = subst (Free 10) (sym front) (span_free 10 rest n sp);
         whole = inl (sym (take-append-drop n rest) ∙ (λ i. sym front i ++ back i));
       }
+
+  pub first_unfed : length rest ≤ n → 0 < length rest → tail ≡ [] → First rest line tail
+  first_unfed le some none =
+      let all : line ≡ rest = front ∙ take_all n rest le in
+      record { feedless = subst (Free 10) (sym front) (span_free 10 rest n sp); whole = inr (sym all, none, omega (arith, ap length all)) }
 
 pub first_less : (rest line tail : List ℕ) → First rest line tail → length tail < length rest
 first_less rest line tail h =
