@@ -8,9 +8,10 @@ ghost use Rattle.cells.specs.Read.{mark_at, AllGaps};
 ghost use Rattle.cells.specs.Gaps.{FirstGap, row_outcome, row_decided, low_value, RowCopied, AsNumbers};
 
 use marks::marks::Marks;
+use marks::units::Units;
 use rules::Mark;
 
-// A plain table: any cell may hold any mark.
+// A plain table: any cell may hold any mark. Fixed memory: a cell for each pair of twenty units, also for fewer.
 #[derive(Clone, Copy)]
 pub struct Triangle {
     cells: [Mark; 190],
@@ -20,19 +21,12 @@ pub struct Triangle {
 fn place(a: usize, b: usize) -> Option<usize>
     ensures { MatchOption result (pair 20 a b ≡ false) (λ cell. (pair 20 a b ≡ true) × (cell ≡ place a b) × (cell < 190)) }
 {
-    if !is_pair(a, b) {
+    if !Units::MOST.has_pair(a, b) {
         return None;
     }
     let low = a.min(b);
     let high = a.max(b);
     Some((high - 1) * (high - 2) / 2 + (low - 1))
-}
-
-// Whether a and b are the labels of two of twenty units.
-fn is_pair(a: usize, b: usize) -> bool
-    ensures { result ≡ pair 20 a b }
-{
-    1 <= a && a <= 20 && 1 <= b && b <= 20 && a != b
 }
 
 // The number of a mark, 0 for a gap and for a number that no pair may have.
@@ -93,22 +87,31 @@ impl Triangle {
 
     // Copies the numbers of the pairs of a and later labels.
     fn copy_row(&self, marks: &mut Marks, a: usize)
-        requires { 1 ≤ a }
+        requires least { 1 ≤ a }
+        requires most { a < units_of marks.old }
         ensures { RowCopied self.now a marks.old marks.new }
     {
-        for i in a..marks.units() {
-            let _ = marks.put(a, i + 1, low_value(self.mark(a, i + 1)));
+        for b in a + 1..=marks.units() {
+            // Never refused: a and b are two of the units, and the number is low.
+            let _ = marks.put(a, b, low_value(self.mark(a, b)));
         }
     }
 
-    // The marks of some units as numbers, a gap as 0; none unless there are 2 to 20 units.
+    // The marks of some units as numbers, a gap as 0.
+    pub fn measured(&self, units: Units) -> Marks
+        ensures { AsNumbers units.count self.now result }
+    {
+        let mut marks = Marks::blank(units);
+        for a in 1..units.count() {
+            self.copy_row(&mut marks, a);
+        }
+        marks
+    }
+
+    // The same for any number of units; none unless there are 2 to 20.
     pub fn numbers(&self, units: u64) -> Option<Marks>
         ensures { MatchOption result (is_size units ≡ false) (λ m. (is_size units ≡ true) × AsNumbers units self.now m) }
     {
-        let mut marks = Marks::new(units)?;
-        for i in 0..marks.units() {
-            self.copy_row(&mut marks, i + 1);
-        }
-        Some(marks)
+        Units::new(units).map(|units| self.measured(units))
     }
 }
