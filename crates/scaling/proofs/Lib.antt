@@ -1,4 +1,4 @@
-pub mod Orders
+pub mod Rows
 pub mod Counting
 pub mod Squares
 pub mod Displacing

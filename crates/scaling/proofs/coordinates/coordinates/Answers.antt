@@ -1,5 +1,5 @@
 use Rattle.std.proofs.Common.{sym, arith}
-use Rattle.scaling.proofs.Orders.{row_long}
+use Rattle.scaling.proofs.Rows.{row_long}
 use Rattle.scaling.proofs.coordinates.coordinates.Goals as goal
 
 pub slice_bounds-displace-end : goal.slice_bounds-displace-end
