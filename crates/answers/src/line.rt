@@ -44,6 +44,7 @@ impl Line<'_> {
 
 // Writes the line of a ranking at the start of the buffer, and answers how many bytes it took.
 // None, and the buffer unchanged, where the buffer has under 512 bytes or the order over 11 labels.
+#[tactic(auto, using(crate::proofs::Telling::one_answer))]
 pub fn write_ranked(buffer: &mut [u8], order: &[u8], total: Total, count: u64) -> Option<usize>
     ensures text { Written (roomy buffer.old && listable order.now) (ranked_text order.now (total_numbers total) count) buffer.old buffer.new result }
     ensures one { OneAnswer }

@@ -16,6 +16,7 @@ impl<'a> Line<'a> {
     ghost use Rattle.answers.specs.Places.{Begun, Appended};
 
     // Begins a line with no byte yet.
+    // Callers test the room: of a lent buffer in an `Option`, that `None` leaves it unchanged has no generated proof.
     pub(crate) fn begin(buffer: &'a mut [u8]) -> Line<'a>
         requires { LINE_ROOM ≤ length buffer.old }
         ensures { Begun buffer.entry result }
