@@ -102,7 +102,7 @@ impl Triangle {
         ensures { AsNumbers units.count self.now result }
     {
         let mut marks = Marks::blank(units);
-        for a in 1..units.count() {
+        for a in 1..units.count {
             self.copy_row(&mut marks, a);
         }
         marks

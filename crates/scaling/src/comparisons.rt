@@ -79,7 +79,7 @@ impl<'a> Row<'a> {
 fn all_comparisons(units: Units) -> u32
     ensures { result ≡ units.count * (units.count - 1) * (units.count - 2) / 3 }
 {
-    let n = units.count() as u32;
+    let n = units.count as u32;
     n * (n - 1) * (n - 2) / 3
 }
 

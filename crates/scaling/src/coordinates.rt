@@ -75,7 +75,7 @@ fn difference(units: Units, marks: u64, displaced: u64) -> i64
     requires displaced { displaced ≤ 800000000000 }
     ensures { result ≡ (pos units.count *ℤ pos marks) -ℤ pos displaced }
 {
-    (units.count() as u64 * marks) as i64 - displaced as i64
+    (units.count as u64 * marks) as i64 - displaced as i64
 }
 
 // The coordinates in n-ths of the order that a row begins with, of as many labels as there are units: writes the displacement

@@ -1,13 +1,16 @@
-use Rattle.std.proofs.Common.{ℕ, ◌*◌, ap, arith}
+use Rattle.std.proofs.Common.{◌*◌, ◌≤◌, arith}
 use Rattle.std.proofs.lemmas.Int.{ints}
 use Rattle.scaling.proofs.Squares.{times_low}
 use Rattle.scaling.proofs.coordinates.difference.Goals as goal
 
+low : (c : goal.Start) → c.args.units.count * c.args.marks ≤ 800000000000
+low c = times_low c.args.units.count c.args.marks c.args.units.most c.requires.marks
+
 pub overflow_cast-result : goal.overflow_cast-result
-overflow_cast-result c = omega (arith, ints, times_low c.count.result c.args.marks (omega arith) c.requires.marks)
+overflow_cast-result c = omega (arith, ints, low c)
 
 pub overflow_sub-result : goal.overflow_sub-result
-overflow_sub-result c = omega (arith, ints, times_low c.count.result c.args.marks (omega arith) c.requires.marks)
+overflow_sub-result c = omega (arith, ints, low c)
 
 pub returns : goal.returns
-returns c = omega (arith, ints, times_low c.count.result c.args.marks (omega arith) c.requires.marks, ap (λ (n : ℕ). n * c.args.marks) c.count.ensures)
+returns c = omega (arith, ints, low c)
