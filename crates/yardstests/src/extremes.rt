@@ -4,7 +4,7 @@ use std::test::Fail;
 use yardsticks::gradient::Gradient;
 use yardsticks::spread::Spread;
 use yardsticks::target::Target;
-use yardsticks::total::{spread_total, target_total};
+use yardsticks::total::total;
 use yardsticks::yardstick::Yardstick;
 
 fn all_greatest() -> Option<Marks> {
@@ -30,7 +30,7 @@ fn spread(rt: HostRuntime) -> Result<(), Fail> {
         return Ok(());
     };
     assert_eq!(rt; <Spread as Yardstick>::step(&marks, 0, 1), 36_100_000_000);
-    assert_eq!(rt; spread_total(&marks, &ROW), Some(266_000_000_000));
+    assert_eq!(rt; total::<Spread>(&marks, &ROW), Some(266_000_000_000));
     Ok(())
 }
 
@@ -41,7 +41,7 @@ fn target(rt: HostRuntime) -> Result<(), Fail> {
         return Ok(());
     };
     assert_eq!(rt; <Target as Yardstick>::step(&marks, 0, 1), 0);
-    assert_eq!(rt; target_total(&marks, &ROW), Some(13_300_000));
+    assert_eq!(rt; total::<Target>(&marks, &ROW), Some(13_300_000));
     Ok(())
 }
 

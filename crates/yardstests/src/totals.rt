@@ -1,7 +1,10 @@
 // Three units with the marks 2, 7 and 4.
 use marks::marks::Marks;
 use std::test::Fail;
-use yardsticks::total::{gradient_total, spread_total, target_total};
+use yardsticks::gradient::Gradient;
+use yardsticks::spread::Spread;
+use yardsticks::target::Target;
+use yardsticks::total::total;
 
 // The marks 2 of 1 and 2, 7 of 1 and 3, 4 of 2 and 3.
 fn three() -> Option<Marks> {
@@ -18,7 +21,7 @@ fn three() -> Option<Marks> {
 
 // The two numbers of a gradient total.
 fn gradient(marks: &Marks, row: &[u8]) -> Option<(i32, i32)> {
-    let total = gradient_total(marks, row)?;
+    let total = total::<Gradient>(marks, row)?;
     Some((total.signs, total.rises))
 }
 
@@ -28,8 +31,8 @@ fn spread(rt: HostRuntime) -> Result<(), Fail> {
         assert!(rt; false);
         return Ok(());
     };
-    assert_eq!(rt; spread_total(&marks, &[1, 2, 3]), Some(206));
-    assert_eq!(rt; spread_total(&marks, &[3, 2, 1, 9]), Some(206));
+    assert_eq!(rt; total::<Spread>(&marks, &[1, 2, 3]), Some(206));
+    assert_eq!(rt; total::<Spread>(&marks, &[3, 2, 1, 9]), Some(206));
     Ok(())
 }
 
@@ -51,8 +54,8 @@ fn target(rt: HostRuntime) -> Result<(), Fail> {
         assert!(rt; false);
         return Ok(());
     };
-    assert_eq!(rt; target_total(&marks, &[2, 1, 3]), Some(17));
-    assert_eq!(rt; target_total(&marks, &[1, 2, 3]), Some(20));
+    assert_eq!(rt; total::<Target>(&marks, &[2, 1, 3]), Some(17));
+    assert_eq!(rt; total::<Target>(&marks, &[1, 2, 3]), Some(20));
     Ok(())
 }
 
@@ -62,9 +65,9 @@ fn no_order(rt: HostRuntime) -> Result<(), Fail> {
         assert!(rt; false);
         return Ok(());
     };
-    assert_eq!(rt; spread_total(&marks, &[1, 2]), None);
-    assert_eq!(rt; spread_total(&marks, &[1, 2, 2]), None);
-    assert_eq!(rt; target_total(&marks, &[1, 2, 4]), None);
-    assert_eq!(rt; target_total(&marks, &[0, 1, 2]), None);
+    assert_eq!(rt; total::<Spread>(&marks, &[1, 2]), None);
+    assert_eq!(rt; total::<Spread>(&marks, &[1, 2, 2]), None);
+    assert_eq!(rt; total::<Target>(&marks, &[1, 2, 4]), None);
+    assert_eq!(rt; total::<Target>(&marks, &[0, 1, 2]), None);
     Ok(())
 }
