@@ -1,6 +1,7 @@
 -- The parts of a gradient step: how far they lie from zero, and their sums, one label after another.
-use Rattle.std.proofs.Common.{◌≡◌, ℕ, zero, suc, ◌-◌, ◌*◌, ◌≤◌, Bool, true, false, cond, not, ◌||◌, eqb, ℤ, pos, negsuc, ◌+ℤ◌, ◌-ℤ◌, nat_abs, sym, refl, ap, ◌∙◌, w32, SFits, add-mul, arith}
+use Rattle.std.proofs.Common.{◌≡◌, ℕ, zero, suc, ◌+◌, ◌*◌, ◌<◌, ◌≤◌, Bool, true, false, cond, not, ◌||◌, eqb, List, length, take, get_or, ℤ, pos, negsuc, ◌+ℤ◌, ◌-ℤ◌, nat_abs, sym, refl, ◌∙◌, add-one, w32, SFits, add-mul, arith}
 use Rattle.std.proofs.lemmas.Int.{ints}
+use Rattle.std.proofs.lemmas.List.{length-take, get_or-take}
 use Rattle.std.specs.Int.{int_signum}
 use Rattle.rules.specs.Units.{labels, has, sum_ℤ}
 use Rattle.rules.specs.Yardsticks.{sign_ℤ}
@@ -9,7 +10,7 @@ use Rattle.marks.specs.declared.marks.Marks.{Marks}
 use Rattle.marks.specs.Numbers.{units_of, numbers_of}
 use Rattle.marks.proofs.Laws.{most, low, symmetric}
 use Rattle.yardsticks.specs.declared.gradient.Grades.{Grades}
-use Rattle.yardsticks.specs.Gradients.{Graded, signs_of, rises_of, at, later, beyond, past, behind}
+use Rattle.yardsticks.specs.Gradients.{RowOf, Graded, signs_of, rises_of, at, later, beyond, past, behind}
 
 -- std's sign of a number is the rulebook's
 pub sign_is : (z : ℤ) → int_signum z ≡ sign_ℤ z
@@ -18,16 +19,16 @@ sign_is (pos (suc n)) = grind (arith, ints)
 sign_is (negsuc n) = refl
 
 -- of marks, it lies within 20,000 of zero
-abbrev pub Low : (ℕ → ℕ → ℕ → ℤ) → Type 0
-Low f = (a b c : ℕ) → a ≤ 10000 → b ≤ 10000 → c ≤ 10000 → nat_abs (f a b c) ≤ 20000
+abbrev pub Bounded : (ℕ → ℕ → ℕ → ℤ) → Type 0
+Bounded f = (a b c : ℕ) → a ≤ 10000 → b ≤ 10000 → c ≤ 10000 → nat_abs (f a b c) ≤ 20000
 
 sign_low : (z : ℤ) → nat_abs (sign_ℤ z) ≤ 1
 sign_low z = grind (arith, ints)
 
-signs_low : Low signs_of
+signs_low : Bounded signs_of
 signs_low a b c h k l = omega (arith, ints, sign_low (pos a -ℤ pos b), sign_low (pos a -ℤ pos c))
 
-rises_low : Low rises_of
+rises_low : Bounded rises_of
 rises_low a b c h k l = omega (arith, ints)
 
 low_if : (b : Bool) (x : ℤ) (c : ℕ) → nat_abs x ≤ c → nat_abs (cond b x (pos 0)) ≤ c
@@ -40,10 +41,16 @@ low_sum : (f : ℕ → ℤ) (c : ℕ) → ((i : ℕ) → nat_abs (f i) ≤ c) �
 low_sum f c h zero = omega arith
 low_sum f c h (suc m) = omega (arith, ints, sum_last f (labels m) (suc m), low_sum f c h m, h (suc m), add-mul m 1 c)
 
--- the last label of a sum
-with_last : (f : ℕ → ℤ) (k : ℕ) → 1 ≤ k → sum_ℤ f (labels k) ≡ sum_ℤ f (labels (k - 1)) +ℤ f k
-with_last f zero one = absurd (omega arith)
-with_last f (suc k) one = let e : suc k - 1 ≡ k = omega arith in rw e (sum_last f (labels k) (suc k))
+-- a sum with the next label
+with_next : (f : ℕ → ℤ) (k : ℕ) → sum_ℤ f (labels (k + 1)) ≡ sum_ℤ f (labels k) +ℤ f (k + 1)
+with_next f k = rw (add-one k) (sum_last f (labels k) (suc k))
+
+-- the marks of the unit j, at the places of its row
+pub row_mark : (m : Marks) (j : ℕ) (row : List ℕ) → RowOf m j row → (n k : ℕ) → n ≡ units_of m → k < length (take n row)
+    → (k < 20) × (get_or (take n row) k 0 ≡ numbers_of m j (k + 1))
+row_mark m j row is n k e h =
+    let low : k < n = omega (arith, length-take n row) in
+    (omega (arith, most m), get_or-take n row k 0 low ∙ is k (omega arith))
 
 -- the unit j is placed after A
 module _ (m : Marks) (A j : ℕ) where
@@ -84,36 +91,34 @@ module _ (m : Marks) (A j : ℕ) where
       none : (b : Bool) (x : ℤ) → b ≡ false → cond b x (pos 0) ≡ pos 0
       none b x h = grind arith
 
-  inner_within : (i : ℕ) (f : ℕ → ℕ → ℕ → ℤ) → Low f → (k : ℕ) → nat_abs (inner i f k) ≤ 20000
+  inner_within : (i : ℕ) (f : ℕ → ℕ → ℕ → ℤ) → Bounded f → (k : ℕ) → nat_abs (inner i f k) ≤ 20000
   inner_within i f l k =
       low_unless (has A k || eqb k j) (at f (numbers_of m) j i k) 20000
       (l (numbers_of m i k) (numbers_of m i j) (numbers_of m j k) (low m i k) (low m i j) (low m j k))
 
-  pub inner_low : (i : ℕ) (f : ℕ → ℕ → ℕ → ℤ) → Low f → (k : ℕ) → nat_abs (inner i f k) ≤ 400000
+  pub inner_low : (i : ℕ) (f : ℕ → ℕ → ℕ → ℤ) → Bounded f → (k : ℕ) → nat_abs (inner i f k) ≤ 400000
   inner_low i f l k = omega (arith, inner_within i f l k)
 
-  pub outer_low : (f : ℕ → ℕ → ℕ → ℤ) → Low f → (i : ℕ) → nat_abs (outer f i) ≤ 400000
+  pub outer_low : (f : ℕ → ℕ → ℕ → ℤ) → Bounded f → (i : ℕ) → nat_abs (outer f i) ≤ 400000
   outer_low f l i =
       low_if (has A i) (past (at f (numbers_of m) j i) (units_of m) A j) 400000
       (omega (arith, low_sum (inner i f) 20000 (inner_within i f l) (units_of m), most m))
 
--- a sum of what each label adds, up to k
-module _ (adds : (ℕ → ℕ → ℕ → ℤ) → ℕ → ℤ) (few : (f : ℕ → ℕ → ℕ → ℤ) → Low f → (i : ℕ) → nat_abs (adds f i) ≤ 400000)
-    (k : ℕ) (one : 1 ≤ k) (last : k ≤ 20) (g : Grades)
-    (sofar : Graded (λ f. sum_ℤ (adds f) (labels (k - 1))) g) where
-  pub sum_fits : (h : Grades) → Graded (λ f. adds f k) h → SFits w32 (g.signs +ℤ h.signs) × SFits w32 (g.rises +ℤ h.rises)
-  sum_fits h next = (
-    omega (arith, ints, sofar.0, next.0, low_sum (adds signs_of) 400000 (few signs_of signs_low) (k - 1), few signs_of signs_low k),
-    omega (arith, ints, sofar.1, next.1, low_sum (adds rises_of) 400000 (few rises_of rises_low) (k - 1), few rises_of rises_low k),
+-- the sum of what the labels up to k add, and what the next one adds
+module _ (adds : (ℕ → ℕ → ℕ → ℤ) → ℕ → ℤ) (few : (f : ℕ → ℕ → ℕ → ℤ) → Bounded f → (i : ℕ) → nat_abs (adds f i) ≤ 400000)
+    (k : ℕ) (g : Grades) (sofar : Graded (λ f. sum_ℤ (adds f) (labels k)) g) where
+  pub sum_fits : k < 20 → (h : Grades) → Graded (λ f. adds f (k + 1)) h → SFits w32 (g.signs +ℤ h.signs) × SFits w32 (g.rises +ℤ h.rises)
+  sum_fits last h next = (
+    omega (arith, ints, sofar.0, next.0, low_sum (adds signs_of) 400000 (few signs_of signs_low) k, few signs_of signs_low (k + 1)),
+    omega (arith, ints, sofar.1, next.1, low_sum (adds rises_of) 400000 (few rises_of rises_low) k, few rises_of rises_low (k + 1)),
   )
 
-  pub sum_next : (h r : Grades) → Graded (λ f. adds f k) h → (r.signs ≡ g.signs +ℤ h.signs) × (r.rises ≡ g.rises +ℤ h.rises)
-      → (q : ℕ) → q ≡ k → Graded (λ f. sum_ℤ (adds f) (labels q)) r
-  sum_next h r next e q is = (
-    e.0 ∙ ((λ t. sofar.0 t +ℤ next.0 t) ∙ sym (with_last (adds signs_of) k one)) ∙ ap (λ (z : ℕ). sum_ℤ (adds signs_of) (labels z)) (sym is),
-    e.1 ∙ ((λ t. sofar.1 t +ℤ next.1 t) ∙ sym (with_last (adds rises_of) k one)) ∙ ap (λ (z : ℕ). sum_ℤ (adds rises_of) (labels z)) (sym is),
+  pub sum_next : (h r : Grades) → Graded (λ f. adds f (k + 1)) h → (r.signs ≡ g.signs +ℤ h.signs) × (r.rises ≡ g.rises +ℤ h.rises)
+      → Graded (λ f. sum_ℤ (adds f) (labels (k + 1))) r
+  sum_next h r next e = (
+    e.0 ∙ ((λ t. sofar.0 t +ℤ next.0 t) ∙ sym (with_next (adds signs_of) k)),
+    e.1 ∙ ((λ t. sofar.1 t +ℤ next.1 t) ∙ sym (with_next (adds rises_of) k)),
   )
 
-  pub sum_same : (adds signs_of k ≡ pos 0) × (adds rises_of k ≡ pos 0) → (r : Grades) → r ≡ g → (q : ℕ) → q ≡ k
-      → Graded (λ f. sum_ℤ (adds f) (labels q)) r
-  sum_same none r e q is = sum_next (record { signs = pos 0; rises = pos 0 }) r (sym none.0, sym none.1) (omega (arith, ints, ap (λ (t : Grades). t.signs) e), omega (arith, ints, ap (λ (t : Grades). t.rises) e)) q is
+  pub sum_same : (adds signs_of (k + 1) ≡ pos 0) × (adds rises_of (k + 1) ≡ pos 0) → Graded (λ f. sum_ℤ (adds f) (labels (k + 1))) g
+  sum_same none = sum_next (record { signs = pos 0; rises = pos 0 }) g (sym none.0, sym none.1) (omega (arith, ints), omega (arith, ints))

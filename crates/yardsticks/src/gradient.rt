@@ -1,8 +1,8 @@
 // Gradient: for each unit before and each unit after the one that is placed, whether their mark is above its marks to
 // them, and by how much.
-ghost use Rattle.std.specs.Prelude.{◌≡◌, true, [], ◌∷◌, pos, ◌+ℤ◌, ◌-ℤ◌, Some, FitsSigned};
+ghost use Rattle.std.specs.Prelude.{◌≡◌, [], ◌∷◌, pos, ◌+ℤ◌, ◌-ℤ◌, Some, FitsSigned};
 ghost use Rattle.std.specs.Int.{w32};
-ghost use Rattle.rules.specs.Units.{label, labels, sum_ℤ};
+ghost use Rattle.rules.specs.Units.{labels, sum_ℤ};
 ghost use Rattle.rules.specs.Yardsticks.{gradient};
 ghost use Rattle.marks.specs.Numbers.{units_of, numbers_of};
 ghost use Rattle.yardsticks.specs.Gradients.{RowOf, Graded, signs_of, rises_of, at, later, beyond, past, behind};
@@ -91,14 +91,6 @@ struct Placing<'a> {
 }
 
 impl Placing<'_> {
-    // The mark of the unit and another label.
-    fn mark(&self, other: usize) -> u16
-        requires { label (units_of self.now.marks.now) other ≡ true }
-        ensures { result ≡ numbers_of self.now.marks.now self.now.unit other }
-    {
-        self.row[other - 1]
-    }
-
     // Whether k comes later: it is not placed, and is other than the unit that is placed now.
     fn comes_later(&self, k: usize) -> bool
         ensures { result ≡ later self.now.placed self.now.unit k }
@@ -106,16 +98,15 @@ impl Placing<'_> {
         !has(self.placed, k) && k != self.unit
     }
 
-    // What all later units add for the earlier unit i.
-    fn past(&self, i: usize) -> Grades
-        requires { label (units_of self.now.marks.now) i ≡ true }
+    // What all later units add for the earlier unit i, whose mark to the unit is `left`.
+    fn past(&self, i: usize, left: u16) -> Grades
+        requires { left ≡ numbers_of self.now.marks.now self.now.unit i }
         ensures { Graded (λ f. past (at f (numbers_of self.now.marks.now) self.now.unit i) (units_of self.now.marks.now) self.now.placed self.now.unit) result }
     {
-        let left = self.mark(i);
         let mut sum = NONE;
-        for k in 1..=self.marks.units() {
-            if self.comes_later(k) {
-                sum = sum + compared(self.marks.mark(i, k), left, self.mark(k));
+        for (k, right) in self.row[..self.marks.units()].iter().enumerate() {
+            if self.comes_later(k + 1) {
+                sum = sum + compared(self.marks.mark(i, k + 1), left, *right);
             }
         }
         sum
@@ -126,9 +117,9 @@ impl Placing<'_> {
         ensures { Graded (λ f. sum_ℤ (behind (at f (numbers_of self.now.marks.now) self.now.unit) (units_of self.now.marks.now) self.now.placed self.now.unit) (labels (units_of self.now.marks.now))) result }
     {
         let mut sum = NONE;
-        for i in 1..=self.marks.units() {
-            if has(self.placed, i) {
-                sum = sum + self.past(i);
+        for (i, left) in self.row[..self.marks.units()].iter().enumerate() {
+            if has(self.placed, i + 1) {
+                sum = sum + self.past(i + 1, *left);
             }
         }
         sum
