@@ -1,4 +1,5 @@
 pub mod Merits
 pub mod Members
 pub mod Gradients
+pub mod Printed
 pub mod Totals
