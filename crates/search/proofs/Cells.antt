@@ -1,6 +1,7 @@
 -- One cell of the tables: the greatest total and its count, one unit after another, from the cells of larger sets.
-use Rattle.std.proofs.Common.{◌≡◌, ℕ, ◌+◌, ◌-◌, ◌^◌, ◌<◌, ◌≤◌, Bool, true, false, cond, List, [], ◌∷◌, ◌++◌, map, length, get_or, ℤ, filter, sym, refl, ap, ◌∙◌, subst, inl, inr, add-one, arith, pow_mono}
-use Rattle.std.proofs.lemmas.Bool.{both_ways, cases_eq, cond-true}
+use Rattle.std.proofs.Common.{◌≡◌, ℕ, ◌+◌, ◌-◌, ◌^◌, ◌<◌, ◌≤◌, Bool, true, false, cond, List, [], ◌∷◌, ◌++◌, map, length, get_or, ℤ, filter, Option, Some, None, MatchOption, IfSome, sym, refl, ap, ◌∙◌, subst, subst₂, inl, inr, add-one, arith}
+use Rattle.std.specs.Option.{unwrap_or}
+use Rattle.std.proofs.lemmas.Bool.{cases_eq, cond-true}
 use Rattle.rules.specs.Units.{label, labels, has, with_unit, size, sum_over}
 use Rattle.rules.specs.Yardsticks.{Merit, Lawful, Within, Low, Symmetric, zeros}
 use Rattle.rules.specs.Orders.{ready, ready_units, closed, circular}
@@ -18,9 +19,10 @@ use Rattle.rules.proofs.Recurrence.{recurrence, best_good, led_good}
 use Rattle.marks.specs.declared.marks.Marks.{Marks}
 use Rattle.marks.specs.declared.ties.Ties.{Ties}
 use Rattle.marks.specs.Numbers.{units_of, numbers_of}
-use Rattle.marks.specs.Tied.{tied_units, tied_of}
+use Rattle.marks.specs.Tied.{tied_of}
 use Rattle.marks.proofs.Laws.{least, most, symmetric, low as marks_low}
-use Rattle.search.specs.Above.{FilledFrom, Sound}
+use Rattle.search.specs.Above.{FilledFrom, Sound, CellOf, Led, better}
+use Rattle.search.proofs.Placing.{put, put_is}
 
 append_none : {X : Type 0} (xs : List X) → xs ++ [] ≡ xs
 append_none [] = refl
@@ -38,29 +40,24 @@ at_most b c = grind arith
 cond_low : (b : Bool) (c : ℕ) → cond b c 0 ≤ c
 cond_low b c = grind arith
 
--- What a loop over units has found: none of the units xs yet; or else the greatest of what they lead to, and how many reach it.
-pub record Sofar (y : Merit) (f : ℕ → List ℤ) (by : ℕ → ℕ) (xs : List ℕ) (found : Bool) (t : List ℤ) (c : ℕ) : Type 0 where
-  pub none : found ≡ false → (xs ≡ []) × (t ≡ zeros y.caps)
-  pub one : found ≡ true → (z : ℕ) × In z xs
-  pub most : found ≡ true → t ≡ greatest y (map f xs)
-  pub reached : found ≡ true → c ≡ sum_over (λ x. cond (y.exceeds (greatest y (map f xs)) (f x)) 0 (by x)) xs
+-- some of the units xs: t is the greatest of what they lead to, and c how many reach it
+pub record Reached (y : Merit) (f : ℕ → List ℤ) (by : ℕ → ℕ) (xs : List ℕ) (t : List ℤ) (c : ℕ) : Type 0 where
+  pub one : (z : ℕ) × In z xs
+  pub most : t ≡ greatest y (map f xs)
+  pub count : c ≡ sum_over (λ x. cond (y.exceeds (greatest y (map f xs)) (f x)) 0 (by x)) xs
+
+moved : {y : Merit} {f : ℕ → List ℤ} {by : ℕ → ℕ} {xs : List ℕ} {t t' : List ℤ} {c c' : ℕ} → t' ≡ t → c' ≡ c → Reached y f by xs t c → Reached y f by xs t' c'
+moved {y} {f} {by} {xs} q r h = subst₂ (λ (u : List ℤ) (k : ℕ). Reached y f by xs u k) (sym q) (sym r) h
+
+-- what a loop over units has found: nothing where there is none, or else the greatest and the count
+abbrev pub Sofar : {T : Type 0} → (T → List ℤ) → (y : Merit) → (ℕ → List ℤ) → (ℕ → ℕ) → List ℕ → Option (T × ℕ) → Type 0
+Sofar numbers y f by xs found = MatchOption found (xs ≡ []) (λ v. Reached y f by xs (numbers v.0) v.1)
 
 -- the same of the ready units up to i, by the cells of the sets with one of them more
-abbrev pub Found : Merit → (ℕ → ℕ → ℕ) → (ℕ → ℕ → Bool) → ℕ → ℕ → ℕ → Bool → List ℤ → ℕ → Type 0
-Found y p tied n A i found t c =
-    Sofar y (led y p tied n A) (λ j. count_cell y p tied n (with_unit A j)) (filter (ready tied n A) (labels i)) found t c
-
-pub start : (y : Merit) (p : ℕ → ℕ → ℕ) (tied : ℕ → ℕ → Bool) (n A : ℕ) (t : List ℤ) → t ≡ zeros y.caps → Found y p tied n A 0 false t 0
-start y p tied n A t h = record {
-  none = λ e. (refl, h);
-  one = λ e. absurd (both_ways true (sym e) refl);
-  most = λ e. absurd (both_ways true (sym e) refl);
-  reached = λ e. absurd (both_ways true (sym e) refl);
-}
-
-pub moved : {y : Merit} {f : ℕ → List ℤ} {by : ℕ → ℕ} {xs : List ℕ} {found found' : Bool} {t t' : List ℤ} {c c' : ℕ}
-    → found' ≡ found → t' ≡ t → c' ≡ c → Sofar y f by xs found t c → Sofar y f by xs found' t' c'
-moved e q r h = rw (e, q, r) h
+abbrev pub Found : {T : Type 0} → (T → List ℤ) → Merit → Marks → Ties → ℕ → ℕ → Option (T × ℕ) → Type 0
+Found numbers y m ts A i found =
+    Sofar numbers y (led y (numbers_of m) (tied_of ts) (units_of m) A) (λ j. count_cell y (numbers_of m) (tied_of ts) (units_of m) (with_unit A j))
+    (filter (ready (tied_of ts) (units_of m) A) (labels i)) found
 
 -- a closed set, of which the tables hold a cell
 pub record Here (y : Merit) (m : Marks) (ts : Ties) (A : ℕ) : Type 0 where
@@ -73,13 +70,6 @@ pub record Here (y : Merit) (m : Marks) (ts : Ties) (A : ℕ) : Type 0 where
 pub record Next (m : Marks) (ts : Ties) (A j : ℕ) : Type 0 where
   pub unit : label (units_of m) j ≡ true
   pub free : ready (tied_of ts) (units_of m) A j ≡ true
-
-module _ {m : Marks} {ts : Ties} (sound : Sound m ts) (A : ℕ) where
-  pub ready_is : (j : ℕ) (b : Bool) → b ≡ ready (tied_of ts) (tied_units ts) A j → ready (tied_of ts) (units_of m) A j ≡ b
-  ready_is j b e = ap (λ (k : ℕ). ready (tied_of ts) k A j) (sym sound.same) ∙ sym e
-
-  pub next : (i : ℕ) → i < units_of m → true ≡ ready (tied_of ts) (tied_units ts) A (i + 1) → Next m ts A (i + 1)
-  next i l e = record { unit = label_from (units_of m) (i + 1) (omega arith) (omega arith); free = ready_is (i + 1) true e }
 
 module _ {y : Merit} {m : Marks} {ts : Ties} {A : ℕ} (h : Here y m ts A) where
   -- names for this file: the marks, the ties, how many units there are, and what is known of them
@@ -129,9 +119,6 @@ module _ {y : Merit} {m : Marks} {ts : Ties} {A : ℕ} (h : Here y m ts A) where
   abbrev by : ℕ → ℕ
   by j = count_cell y p tied n (with_unit A j)
 
-  abbrev So : List ℕ → Bool → List ℤ → ℕ → Type 0
-  So xs found t c = Sofar y (led y p tied n A) (λ j. count_cell y p tied n (with_unit A j)) xs found t c
-
   some_in : (i : ℕ) → i ≤ n → (j : ℕ) → In j (some i) → In j (ready_units tied n A)
   some_in i l j h =
       let w = filter_in (ready tied n A) j (labels i) h in
@@ -154,87 +141,133 @@ module _ {y : Merit} {m : Marks} {ts : Ties} {A : ℕ} (h : Here y m ts A) where
   not_full : (j : ℕ) → label n j ≡ true → ready tied n A j ≡ true → size n A < n
   not_full j l r = omega (arith, size_with n A j l (ready_out tied n A j r), size_many n (with_unit A j), many_low n (with_unit A j))
 
-  module _ (i : ℕ) (l : i < n) {found : Bool} {t : List ℤ} {c : ℕ} (s : So (some i) found t c) where
-    pub skip : ready tied n A (i + 1) ≡ false → So (some (i + 1)) found t c
-    skip r = subst (λ (xs : List ℕ). So xs found t c) (sym (passed i r)) s
+  module _ (i : ℕ) (l : i < n) (r : ready tied n A (i + 1) ≡ true) where
+    last : In (i + 1) (some i ++ ((i + 1) ∷ []))
+    last = in_right (i + 1) (some i) ((i + 1) ∷ []) (inl refl)
 
-    module _ (r : ready tied n A (i + 1) ≡ true) where
-      last : In (i + 1) (some i ++ ((i + 1) ∷ []))
-      last = in_right (i + 1) (some i) ((i + 1) ∷ []) (inl refl)
+    good_more : GoodOn y law via (some i ++ ((i + 1) ∷ []))
+    good_more = subst (λ (xs : List ℕ). GoodOn y law via xs) (taken i r) (good (i + 1) (omega arith))
 
-      good_more : GoodOn y law via (some i ++ ((i + 1) ∷ []))
-      good_more = subst (λ (xs : List ℕ). GoodOn y law via xs) (taken i r) (good (i + 1) (omega arith))
+    with_last : (u : List ℤ) (c : ℕ) → u ≡ top_of y law via (some i ++ ((i + 1) ∷ [])) → c ≡ tally y law via by (some i ++ ((i + 1) ∷ []))
+        → Reached y via by (some (i + 1)) u c
+    with_last u c e f = subst (λ (xs : List ℕ). Reached y via by xs u c) (sym (taken i r)) (record { one = (i + 1, last); most = e; count = f })
 
-      with_last : (u : List ℤ) (m : ℕ) → u ≡ top_of y law via (some i ++ ((i + 1) ∷ [])) → m ≡ tally y law via by (some i ++ ((i + 1) ∷ []))
-          → So (some (i + 1)) true u m
-      with_last u m e f = subst (λ (xs : List ℕ). So xs true u m) (sym (taken i r)) (record {
-        none = λ q. absurd (both_ways true q refl);
-        one = λ q. (i + 1, last);
-        most = λ q. e;
-        reached = λ q. f;
-      })
+    -- the first that is found
+    first : some i ≡ [] → Reached y via by (some (i + 1)) (via (i + 1)) (by (i + 1))
+    first none =
+        with_last (via (i + 1)) (by (i + 1)) (ap (λ (xs : List ℕ). top_of y law via (xs ++ ((i + 1) ∷ []))) (sym none))
+        (sym (tally_first y law via by (i + 1) (good_more (i + 1) last)) ∙ ap (λ (xs : List ℕ). tally y law via by (xs ++ ((i + 1) ∷ []))) (sym none))
 
-      pub first : found ≡ false → So (some (i + 1)) true (via (i + 1)) (by (i + 1))
-      first e =
-          let none = (s.none e).0 in
-          with_last (via (i + 1)) (by (i + 1)) (ap (λ (xs : List ℕ). top_of y law via (xs ++ ((i + 1) ∷ []))) (sym none))
-          (sym (tally_first y law via by (i + 1) (good_more (i + 1) last))
-          ∙ ap (λ (xs : List ℕ). tally y law via by (xs ++ ((i + 1) ∷ []))) (sym none))
+    module _ {t : List ℤ} {c : ℕ} (s : Reached y via by (some i) t c) where
+      above : y.exceeds (via (i + 1)) t ≡ true → Reached y via by (some (i + 1)) (via (i + 1)) (by (i + 1))
+      above h =
+          let w = push_more y law via by s.one.0 (some i) (i + 1) s.one.1 good_more (ap (λ (u : List ℤ). y.exceeds (via (i + 1)) u) (sym s.most) ∙ h) in
+          with_last (via (i + 1)) (by (i + 1)) (sym w.0) (sym w.1)
 
-      module _ (e : found ≡ true) where
-        is : t ≡ top_of y law via (some i)
-        is = s.most e
+      level : y.exceeds (via (i + 1)) t ≡ false → y.exceeds t (via (i + 1)) ≡ false → Reached y via by (some (i + 1)) t (c + by (i + 1))
+      level h k =
+          let w = push_equal y law via by s.one.0 (some i) (i + 1) s.one.1 good_more (ap (λ (u : List ℤ). y.exceeds (via (i + 1)) u) (sym s.most) ∙ h)
+          (ap (λ (u : List ℤ). y.exceeds u (via (i + 1))) (sym s.most) ∙ k) in
+          with_last t (c + by (i + 1)) (s.most ∙ sym w.0) (ap (λ (q : ℕ). q + by (i + 1)) s.count ∙ sym w.1)
 
-        pub above : y.exceeds (via (i + 1)) t ≡ true → So (some (i + 1)) true (via (i + 1)) (by (i + 1))
-        above h =
-            let w = push_more y law via by (s.one e).0 (some i) (i + 1) (s.one e).1 good_more (ap (λ (u : List ℤ). y.exceeds (via (i + 1)) u) (sym is) ∙ h) in
-            with_last (via (i + 1)) (by (i + 1)) (sym w.0) (sym w.1)
+      below : y.exceeds (via (i + 1)) t ≡ false → y.exceeds t (via (i + 1)) ≡ true → Reached y via by (some (i + 1)) t c
+      below h k =
+          let w = push_less y law via by s.one.0 (some i) (i + 1) s.one.1 good_more (ap (λ (u : List ℤ). y.exceeds (via (i + 1)) u) (sym s.most) ∙ h)
+          (ap (λ (u : List ℤ). y.exceeds u (via (i + 1))) (sym s.most) ∙ k) in
+          with_last t c (s.most ∙ sym w.0) (s.count ∙ sym w.1)
 
-        pub level : y.exceeds (via (i + 1)) t ≡ false → y.exceeds t (via (i + 1)) ≡ false → So (some (i + 1)) true t (c + by (i + 1))
-        level h k =
-            let w = push_equal y law via by (s.one e).0 (some i) (i + 1) (s.one e).1 good_more (ap (λ (u : List ℤ). y.exceeds (via (i + 1)) u) (sym is) ∙ h)
-            (ap (λ (u : List ℤ). y.exceeds u (via (i + 1))) (sym is) ∙ k) in
-            with_last t (c + by (i + 1)) (is ∙ sym w.0) (ap (λ (m : ℕ). m + by (i + 1)) (s.reached e) ∙ sym w.1)
+      -- the count of equal totals fits 64 bits
+      fits : c + by (i + 1) < 2 ^ 64
+      fits =
+          let few = counts_few tied n y p A (i + 1) (omega arith) (not_full (i + 1) (label_from n (i + 1) (omega arith) (omega arith)) r) in
+          let all = factorial_fits (n - size n A) (omega (arith, twenty)) in
+          let listed_low = sum_low by (λ j. length (listed y p tied n (with_unit A j))) (some (i + 1))
+          (λ j. cond_low (closed tied n (with_unit A j)) (length (listed y p tied n (with_unit A j)))) in
+          let tally_low = sum_low (λ x. cond (y.exceeds (top_of y law via (some i)) (via x)) 0 (by x)) by (some i)
+          (λ x. at_most (y.exceeds (top_of y law via (some i)) (via x)) (by x)) in
+          omega (arith, s.count, ap (sum_over by) (taken i r), sum_append by (some i) ((i + 1) ∷ []))
 
-        pub below : y.exceeds (via (i + 1)) t ≡ false → y.exceeds t (via (i + 1)) ≡ true → So (some (i + 1)) true t c
-        below h k =
-            let w = push_less y law via by (s.one e).0 (some i) (i + 1) (s.one e).1 good_more (ap (λ (u : List ℤ). y.exceeds (via (i + 1)) u) (sym is) ∙ h)
-            (ap (λ (u : List ℤ). y.exceeds u (via (i + 1))) (sym is) ∙ k) in
-            with_last t c (is ∙ sym w.0) (s.reached e ∙ sym w.1)
+  module _ {T : Type 0} (numbers : T → List ℤ) where
+    abbrev So : ℕ → Option (T × ℕ) → Type 0
+    So i found = Sofar numbers y (led y p tied n A) (λ j. count_cell y p tied n (with_unit A j)) (some i) found
 
-        -- the count of equal totals fits 64 bits
-        pub fits : c + by (i + 1) < 2 ^ 64
-        fits =
-            let few = counts_few tied n y p A (i + 1) (omega arith) (not_full (i + 1) (label_from n (i + 1) (omega arith) (omega arith)) r) in
-            let all = factorial_fits (n - size n A) (omega (arith, twenty)) in
-            let listed_low = sum_low by (λ j. length (listed y p tied n (with_unit A j))) (some (i + 1))
-            (λ j. cond_low (closed tied n (with_unit A j)) (length (listed y p tied n (with_unit A j)))) in
-            let tally_low = sum_low (λ x. cond (y.exceeds (top_of y law via (some i)) (via x)) 0 (by x)) by (some i)
-            (λ x. at_most (y.exceeds (top_of y law via (some i)) (via x)) (by x)) in
-            omega (arith, s.reached e, ap (sum_over by) (taken i r), sum_append by (some i) ((i + 1) ∷ []))
+    module _ (i : ℕ) (l : i < n) where
+      -- a unit that is not ready changes nothing
+      pub skip : (found : Option (T × ℕ)) → ready tied n A (i + 1) ≡ false → So i found → So (i + 1) found
+      skip found r s = subst (λ (xs : List ℕ). Sofar numbers y (led y p tied n A) (λ j. count_cell y p tied n (with_unit A j)) xs found) (sym (passed i r)) s
 
-  -- after all units
-  pub found_all : {i : ℕ} {t : List ℤ} {c : ℕ} {found : Bool} → i ≡ n → found ≡ true → So (some i) found t c
-      → (t ≡ total_cell y p tied n A) × (c ≡ count_cell y p tied n A)
-  found_all {i} {t} {c} {found} q f s =
-      let end = subst (λ (k : ℕ). So (some k) found t c) q s in
-      let w = ready_in tied n A (end.one f).0 (end.one f).1 in
-      let r = rule.cells_next A a (not_full (end.one f).0 w.0 w.1) shut in (
-        end.most f ∙ sym r.0,
-        end.reached f ∙ ap (λ (u : List ℤ). sum_over (λ x. cond (y.exceeds u (via x)) 0 (by x)) (ready_units tied n A)) (sym r.0) ∙ sym r.1,
-      )
+      module _ (w : T × ℕ) (v : Led numbers y m ts A (i + 1) w) where
+        -- one that is ready leaves the better
+        pub take_in : (found : Option (T × ℕ)) → So i found → So (i + 1) (Some (better (λ s t. y.exceeds (numbers s) (numbers t)) found w))
+        take_in None s = moved v.total v.count (first i l v.free s)
+        take_in (Some b) s = go (y.exceeds (numbers w.0) (numbers b.0)) (y.exceeds (numbers b.0) (numbers w.0)) refl refl
+          where
+            over : {q : Bool} → y.exceeds (numbers w.0) (numbers b.0) ≡ q → y.exceeds (via (i + 1)) (numbers b.0) ≡ q
+            over h = ap (λ (u : List ℤ). y.exceeds u (numbers b.0)) (sym v.total) ∙ h
 
-  pub none_found : {i : ℕ} {t : List ℤ} {c : ℕ} {found : Bool} → i ≡ n → found ≡ false → So (some i) found t c
-      → (t ≡ total_cell y p tied n A) × (1 ≡ count_cell y p tied n A)
-  none_found {i} {t} {c} {found} q f s =
-      let end = subst (λ (k : ℕ). So (some k) found t c) q s in
-      let e : length (ready_units tied n A) ≡ 0 = ap length (end.none f).0 in
-      let k : size n A ≡ n = elim (cases_eq (size n A) n) [
-        | inl z ↦ z
-        | inr ne ↦ absurd (omega (arith, rule.some_next A (omega (arith, size_many n A, many_low n A))))
-      ] in
-      let r = rule.cells_full A k in
-      ((end.none f).1 ∙ sym r.0, sym r.1)
+            under : {q : Bool} → y.exceeds (numbers b.0) (numbers w.0) ≡ q → y.exceeds (numbers b.0) (via (i + 1)) ≡ q
+            under h = ap (λ (u : List ℤ). y.exceeds (numbers b.0) u) (sym v.total) ∙ h
+
+            go : (p q : Bool) → y.exceeds (numbers w.0) (numbers b.0) ≡ p → y.exceeds (numbers b.0) (numbers w.0) ≡ q
+                → So (i + 1) (Some (cond p w (b.0, cond q b.1 (b.1 + w.1))))
+            go true q h k = moved v.total v.count (above i l v.free s (over h))
+            go false true h k = below i l v.free s (over h) (under k)
+            go false false h k = moved refl (ap (λ (q : ℕ). b.1 + q) v.count) (level i l v.free s (over h) (under k))
+
+        pub room : (found : Option (T × ℕ)) → So i found → IfSome found (λ b. b.1 + w.1 < 2 ^ 64)
+        room None s = tt
+        room (Some b) s = omega (arith, fits i l v.free s, v.count)
+
+    -- the same with the label u, as the loop has it
+    module _ (u : ℕ) (l : label n u ≡ true) where
+      before : u - 1 < n
+      before = omega (arith, label_low n u l, label_high n u l)
+
+      is_next : u - 1 + 1 ≡ u
+      is_next = omega (arith, label_low n u l)
+
+      is_last : u - 1 + 1 ≡ u + 1 - 1
+      is_last = omega (arith, label_low n u l)
+
+      next_led : (w : T × ℕ) → Led numbers y m ts A u w → Led numbers y m ts A (u - 1 + 1) w
+      next_led w v = subst (λ (j : ℕ). Led numbers y m ts A j w) (sym is_next) v
+
+      module _ (found : Option (T × ℕ)) (s : So (u - 1) found) where
+        pub has_room : (w : T × ℕ) → Led numbers y m ts A u w → IfSome found (λ b. b.1 + w.1 < 2 ^ 64)
+        has_room w v = room (u - 1) before w (next_led w v) found s
+
+        pub taken_in : (w : T × ℕ) → Led numbers y m ts A u w → (r : T × ℕ) (f : Option (T × ℕ))
+            → r ≡ better (λ s t. y.exceeds (numbers s) (numbers t)) found w → f ≡ Some r → So (u + 1 - 1) f
+        taken_in w v r f e q =
+            subst₂ (λ (i : ℕ) (o : Option (T × ℕ)). So i o) is_last (ap Some (sym e) ∙ sym q) (take_in (u - 1) before w (next_led w v) found s)
+
+        pub passed_over : (f : Option (T × ℕ)) → ready tied n A u ≡ false → f ≡ found → So (u + 1 - 1) f
+        passed_over f r q =
+            subst₂ (λ (i : ℕ) (o : Option (T × ℕ)). So i o) is_last (sym q) (skip (u - 1) before found (ap (ready tied n A) is_next ∙ r) s)
+
+    -- after all units
+    all_found : (z : T) → numbers z ≡ zeros y.caps → (found : Option (T × ℕ)) → So n found → CellOf numbers y m ts A (unwrap_or found (z, 1))
+    all_found z e (Some v) s =
+        let w = ready_in tied n A s.one.0 s.one.1 in
+        let r = rule.cells_next A a (not_full s.one.0 w.0 w.1) shut in
+        record {
+          total = s.most ∙ sym r.0;
+          count = s.count ∙ ap (λ (u : List ℤ). sum_over (λ x. cond (y.exceeds u (via x)) 0 (by x)) (ready_units tied n A)) (sym r.0) ∙ sym r.1;
+        }
+    all_found z e None s =
+        let none : length (ready_units tied n A) ≡ 0 = ap length s in
+        let k : size n A ≡ n = elim (cases_eq (size n A) n) [
+          | inl q ↦ q
+          | inr ne ↦ absurd (omega (arith, rule.some_next A (omega (arith, size_many n A, many_low n A))))
+        ] in
+        let r = rule.cells_full A k in
+        record { total = e ∙ sym r.0; count = sym r.1 }
+
+    -- the same, as the loop ends
+    pub ended : (i : ℕ) → i ≡ n → (found f : Option (T × ℕ)) → So i found → f ≡ found → (z : T) → numbers z ≡ zeros y.caps
+        → (r : T × ℕ) → r ≡ unwrap_or f (z, 1) → CellOf numbers y m ts A r
+    ended i at_end found f s same z e r q =
+        subst (λ (v : T × ℕ). CellOf numbers y m ts A v) (sym q) (all_found z e f (subst₂ (λ (k : ℕ) (o : Option (T × ℕ)). So k o) at_end (sym same) s))
 
   -- one ready unit
   module _ {j : ℕ} (next_is : Next m ts A j) where
@@ -249,11 +282,6 @@ module _ {y : Merit} {m : Marks} {ts : Ties} {A : ℕ} (h : Here y m ts A) where
 
     pub next_below : with_unit A j < 2 ^ n
     next_below = with_below n A j l a out
-
-    pub next_fits : (label 32 j ≡ true) × (with_unit A j < 2 ^ 32)
-    next_fits =
-        let fits : 2 ^ units_of m ≤ 2 ^ 20 = pow_mono twenty in
-        (label_from 32 j (label_low n j l) (omega (arith, label_high n j l, twenty)), omega (arith, next_below))
 
     step_near : Within 1 y.caps (y.step p n A j)
     step_near = step_is_within y law p tied n two twenty low sm A j a l out
@@ -271,7 +299,13 @@ module _ {y : Merit} {m : Marks} {ts : Ties} {A : ℕ} (h : Here y m ts A) where
     )
 
     module _ {T : Type 0} {numbers : T → List ℤ} {totals : List T} {counts : List ℕ} (above : FilledFrom numbers y p tied n (A + 1) totals counts)
-        {next : ℕ} (e : next ≡ with_unit A j) where
+        {next : ℕ} (put_to : next ≡ put A j) where
+      e : next ≡ with_unit A j
+      e = put_to ∙ put_is n A j twenty l out
+
+      pub in_room : {T : Type 0} (a : List T) → 2 ^ n ≤ length a → next < length a
+      in_room a k = omega (arith, e, next_below, k)
+
       pub read_total : {x : T} → x ≡ get_or totals next x → numbers x ≡ total_cell y p tied n (with_unit A j)
       read_total {x} q =
           ap numbers (q ∙ ap (λ (k : ℕ). get_or totals k x) e) ∙ above.total (with_unit A j) x (omega (arith, with_above A j)) next_below
