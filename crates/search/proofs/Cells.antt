@@ -193,12 +193,15 @@ module _ {y : Merit} {m : Marks} {ts : Ties} {A : ℕ} (h : Here y m ts A) where
 
     module _ (i : ℕ) (l : i < n) where
       -- a unit that is not ready changes nothing
-      pub skip : (found : Option (T × ℕ)) → ready tied n A (i + 1) ≡ false → So i found → So (i + 1) found
+      skip : (found : Option (T × ℕ)) → ready tied n A (i + 1) ≡ false → So i found → So (i + 1) found
       skip found r s = subst (λ (xs : List ℕ). Sofar numbers y (led y p tied n A) (λ j. count_cell y p tied n (with_unit A j)) xs found) (sym (passed i r)) s
+
+      pub passed_over : (found : Option (T × ℕ)) → ready tied n A (i + 1) ≡ false → So i found → (f : Option (T × ℕ)) → f ≡ found → So (i + 1) f
+      passed_over found r s f q = subst (λ (o : Option (T × ℕ)). So (i + 1) o) (sym q) (skip found r s)
 
       module _ (w : T × ℕ) (v : Led numbers y m ts A (i + 1) w) where
         -- one that is ready leaves the better
-        pub take_in : (found : Option (T × ℕ)) → So i found → So (i + 1) (Some (better (λ s t. y.exceeds (numbers s) (numbers t)) found w))
+        take_in : (found : Option (T × ℕ)) → So i found → So (i + 1) (Some (better (λ s t. y.exceeds (numbers s) (numbers t)) found w))
         take_in None s = moved v.total v.count (first i l v.free s)
         take_in (Some b) s = go (y.exceeds (numbers w.0) (numbers b.0)) (y.exceeds (numbers b.0) (numbers w.0)) refl refl
           where
@@ -214,36 +217,13 @@ module _ {y : Merit} {m : Marks} {ts : Ties} {A : ℕ} (h : Here y m ts A) where
             go false true h k = below i l v.free s (over h) (under k)
             go false false h k = moved refl (ap (λ (q : ℕ). b.1 + q) v.count) (level i l v.free s (over h) (under k))
 
+        pub taken_in : (found : Option (T × ℕ)) → So i found → (r : T × ℕ) (f : Option (T × ℕ))
+            → r ≡ better (λ s t. y.exceeds (numbers s) (numbers t)) found w → f ≡ Some r → So (i + 1) f
+        taken_in found s r f e q = subst (λ (o : Option (T × ℕ)). So (i + 1) o) (ap Some (sym e) ∙ sym q) (take_in found s)
+
         pub room : (found : Option (T × ℕ)) → So i found → IfSome found (λ b. b.1 + w.1 < 2 ^ 64)
         room None s = tt
         room (Some b) s = omega (arith, fits i l v.free s, v.count)
-
-    -- the same with the label u, as the loop has it
-    module _ (u : ℕ) (l : label n u ≡ true) where
-      before : u - 1 < n
-      before = omega (arith, label_low n u l, label_high n u l)
-
-      is_next : u - 1 + 1 ≡ u
-      is_next = omega (arith, label_low n u l)
-
-      is_last : u - 1 + 1 ≡ u + 1 - 1
-      is_last = omega (arith, label_low n u l)
-
-      next_led : (w : T × ℕ) → Led numbers y m ts A u w → Led numbers y m ts A (u - 1 + 1) w
-      next_led w v = subst (λ (j : ℕ). Led numbers y m ts A j w) (sym is_next) v
-
-      module _ (found : Option (T × ℕ)) (s : So (u - 1) found) where
-        pub has_room : (w : T × ℕ) → Led numbers y m ts A u w → IfSome found (λ b. b.1 + w.1 < 2 ^ 64)
-        has_room w v = room (u - 1) before w (next_led w v) found s
-
-        pub taken_in : (w : T × ℕ) → Led numbers y m ts A u w → (r : T × ℕ) (f : Option (T × ℕ))
-            → r ≡ better (λ s t. y.exceeds (numbers s) (numbers t)) found w → f ≡ Some r → So (u + 1 - 1) f
-        taken_in w v r f e q =
-            subst₂ (λ (i : ℕ) (o : Option (T × ℕ)). So i o) is_last (ap Some (sym e) ∙ sym q) (take_in (u - 1) before w (next_led w v) found s)
-
-        pub passed_over : (f : Option (T × ℕ)) → ready tied n A u ≡ false → f ≡ found → So (u + 1 - 1) f
-        passed_over f r q =
-            subst₂ (λ (i : ℕ) (o : Option (T × ℕ)). So i o) is_last (sym q) (skip (u - 1) before found (ap (ready tied n A) is_next ∙ r) s)
 
     -- after all units
     all_found : (z : T) → numbers z ≡ zeros y.caps → (found : Option (T × ℕ)) → So n found → CellOf numbers y m ts A (unwrap_or found (z, 1))

@@ -32,5 +32,5 @@ pub(crate) fn ready(ties: &Ties, set: u32, unit: usize) -> bool
 pub(crate) fn closed(ties: &Ties, set: u32) -> bool
     ensures { result ≡ closed (tied_of ties.now) (tied_units ties.now) set }
 {
-    (1..=ties.units()).all(|unit| !has(set, unit) || follows(ties, set, unit))
+    (0..ties.units()).all(|i| !has(set, i + 1) || follows(ties, set, i + 1))
 }

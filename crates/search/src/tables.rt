@@ -94,8 +94,8 @@ impl<'a, Y: Yardstick> Stage<'a, Y> {
         ensures { CellOf Y.Yardstick.numbers (merit_of Y.Yardstick) self.now.tables.sheet.marks.now self.now.tables.sheet.ties.now self.now.placed result }
     {
         let mut found = None;
-        for unit in 1..=self.tables.sheet.marks.units() {
-            if let Some(way) = self.way(unit) {
+        for i in 0..self.tables.sheet.marks.units() {
+            if let Some(way) = self.way(i + 1) {
                 found = Some(better::<Y>(found, way));
             }
         }
