@@ -26,12 +26,12 @@ module _ {S T : Type 0} {y : Ghosts S T} (law : Lawful (merit_of y)) (s : Stage 
   here = record { law = law; sound = s.tables.sheet.sound; below = s.within; shut = s.shut }
 
   -- the ties say the same of the units of the marks
-  pub same_ready : (j : ℕ) (b : Bool) → b ≡ ready (tied_of t) (tied_units t) s.placed j → ready (tied_of t) (units_of m) s.placed j ≡ b
-  same_ready j b e = ap (λ (k : ℕ). ready (tied_of t) k s.placed j) (sym s.tables.sheet.sound.same) ∙ sym e
+  pub same_ready : (j : ℕ) (b : Bool) → b ≡ ready (tied_of t) (tied_units t) s.placed j → b ≡ ready (tied_of t) (units_of m) s.placed j
+  same_ready j b e = e ∙ ap (λ (k : ℕ). ready (tied_of t) k s.placed j) s.tables.sheet.sound.same
 
-  module _ (j : ℕ) (unit : label (units_of m) j ≡ true) (free : true ≡ ready (tied_of t) (tied_units t) s.placed j) where
+  module _ (j : ℕ) (unit : label (units_of m) j ≡ true) (free : ready (tied_of t) (units_of m) s.placed j ≡ true) where
     next : Next m t s.placed j
-    next = record { unit = unit; free = same_ready j true free }
+    next = record { unit = unit; free = free }
 
     module _ {k : ℕ} (e : k ≡ put s.placed j) where
       pub in_totals : k < length s.tables.totals.now
@@ -50,7 +50,7 @@ module _ {S T : Type 0} {y : Ghosts S T} (law : Lawful (merit_of y)) (s : Stage 
         pub led : {v : T} → y.numbers v ≡ y.plus (y.numbers u) (y.numbers x)
             → Led y.numbers (merit_of y) m t s.placed j (v, get_or s.tables.counts.now k 0)
         led sum = record {
-          free = same_ready j true free;
+          free = free;
           total = cells.told here next s.above e read step sum;
           count = cells.read_count here next s.above e;
         }

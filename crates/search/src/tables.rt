@@ -75,18 +75,23 @@ fn better<Y: Yardstick>(found: Option<(Y::Total, u64)>, way: (Y::Total, u64)) ->
 }
 
 impl<'a, Y: Yardstick> Stage<'a, Y> {
-    // The total that is reached with a unit next, and in how many ways; none if the unit may not come next.
-    pub(crate) fn way(&self, unit: usize) -> Option<(Y::Total, u64)>
-        requires { label (units_of self.now.tables.sheet.marks.now) unit ≡ true }
-        ensures { MatchOption result (ready (tied_of self.now.tables.sheet.ties.now) (units_of self.now.tables.sheet.marks.now) self.now.placed unit ≡ false) (Led Y.Yardstick.numbers (merit_of Y.Yardstick) self.now.tables.sheet.marks.now self.now.tables.sheet.ties.now self.now.placed unit) }
+    // Whether a unit may come next.
+    pub(crate) fn allows(&self, unit: usize) -> bool
+        ensures { result ≡ ready (tied_of self.now.tables.sheet.ties.now) (units_of self.now.tables.sheet.marks.now) self.now.placed unit }
+    {
+        ready(self.tables.sheet.ties, self.placed, unit)
+    }
+
+    // The total that is reached with a unit next that may come next, and in how many ways.
+    pub(crate) fn way(&self, unit: usize) -> (Y::Total, u64)
+        requires label { label (units_of self.now.tables.sheet.marks.now) unit ≡ true }
+        requires allowed { ready (tied_of self.now.tables.sheet.ties.now) (units_of self.now.tables.sheet.marks.now) self.now.placed unit ≡ true }
+        ensures { Led Y.Yardstick.numbers (merit_of Y.Yardstick) self.now.tables.sheet.marks.now self.now.tables.sheet.ties.now self.now.placed unit result }
     {
         let Tables { sheet, totals, counts } = self.tables;
-        if !ready(sheet.ties, self.placed, unit) {
-            return None;
-        }
         let larger = with_unit(self.placed, unit) as usize;
         let step = Y::step(sheet.marks, self.placed, unit);
-        Some((Y::add(step, totals[larger]), counts[larger]))
+        (Y::add(step, totals[larger]), counts[larger])
     }
 
     // The cell of the set: the greatest total that is reached, and in how many ways.
@@ -95,8 +100,8 @@ impl<'a, Y: Yardstick> Stage<'a, Y> {
     {
         let mut found = None;
         for i in 0..self.tables.sheet.marks.units() {
-            if let Some(way) = self.way(i + 1) {
-                found = Some(better::<Y>(found, way));
+            if self.allows(i + 1) {
+                found = Some(better::<Y>(found, self.way(i + 1)));
             }
         }
         found.unwrap_or((Y::zero(), 1))
