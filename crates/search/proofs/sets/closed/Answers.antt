@@ -1,4 +1,4 @@
-use Rattle.std.proofs.Common.{rules, ◌≡◌, ℕ, Bool, not, ◌||◌}
+use Rattle.std.proofs.Common.{rules, not, ◌||◌}
 use Rattle.rules.specs.Units.{has}
 use Rattle.rules.specs.Orders.{follows}
 use Rattle.marks.specs.Tied.{tied_of, tied_units}
