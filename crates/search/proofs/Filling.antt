@@ -31,3 +31,8 @@ module _ {T : Type 0} (numbers : T → List ℤ) (y : Merit) (p : ℕ → ℕ �
   -- all cells
   pub all_filled : FilledFrom numbers y p tied n 0 totals counts → Filled numbers y p tied n totals counts
   all_filled h = record { total = λ A d l. h.total A d (omega arith) l; count = λ A l. h.count A (omega arith) l }
+
+-- filled tables are filled from every set on
+pub from_filled : {T : Type 0} {numbers : T → List ℤ} {y : Merit} {p : ℕ → ℕ → ℕ} {tied : ℕ → ℕ → Bool} {n : ℕ} {totals : List T} {counts : List ℕ} (a : ℕ)
+    → Filled numbers y p tied n totals counts → FilledFrom numbers y p tied n a totals counts
+from_filled a s = record { total = λ A d _ b. s.total A d b; count = λ A _ b. s.count A b }
