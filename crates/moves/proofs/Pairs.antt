@@ -48,9 +48,6 @@ seconds f u k n e own later =
 rows_more : (test : ℕ → ℕ → Bool) (n u : ℕ) → u < n → rows test n u (n - u) ≡ row test n u ++ rows test n (u + 1) (n - (u + 1))
 rows_more test n u h = let s : n - u ≡ suc (n - (u + 1)) = omega arith in ap (rows test n u) s
 
-rows_end : (test : ℕ → ℕ → Bool) (n u : ℕ) → n ≤ u → rows test n u (n - u) ≡ []
-rows_end test n u h = let s : n - u ≡ 0 = omega arith in ap (rows test n u) s
-
 -- interchange: v after u
 above : (n u : ℕ) → u < n → filter (ltb u) (range_with_len 0 n) ≡ range_with_len (u + 1) (n - u - 1)
 above n u h =
@@ -75,17 +72,11 @@ many_pairs (suc k) n u e =
     twice zero = refl
     twice (suc j) = let s : suc j - 1 ≡ j = omega arith in rw s (omega (arith, mul_comm (suc (suc j)) (suc j), mul_comm (suc j) j))
 
--- a pair is left only where a place is
-pub some_left : (n u left : ℕ) → left < length (rows ltb n u (n - u)) → u < n
-some_left n u left h =
-    ⊎_elim (λ l. l) (λ l. absurd (omega (arith, ap length (rows_end ltb n u l)))) (cases_lt u n)
-
 -- the pair with a number is past the first row
-pub past_row : (n u left : ℕ) → left < length (rows ltb n u (n - u)) → n - u - 1 ≤ left
+pub past_row : (n u left : ℕ) → u < n → left < length (rows ltb n u (n - u)) → n - u - 1 ≤ left
     → (left - (n - u - 1) < length (rows ltb n (u + 1) (n - (u + 1))))
     × (get_or (rows ltb n (u + 1) (n - (u + 1))) (left - (n - u - 1)) (0, 0) ≡ get_or (rows ltb n u (n - u)) left (0, 0))
-past_row n u left h l =
-    let lt = some_left n u left h in
+past_row n u left lt h l =
     let long = row_long n u lt in
     let rest = rows ltb n (u + 1) (n - (u + 1)) in
     let whole = ap length (rows_more ltb n u lt) ∙ length-append (row ltb n u) rest in (

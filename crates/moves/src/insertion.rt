@@ -26,9 +26,9 @@ fn insert(order: &mut [u8], u: usize, v: usize)
     ensures { order.new ≡ inserted u v order.old }
 {
     if u < v {
-        order[u..v + 1].rotate_left(1);
+        order[u..=v].rotate_left(1);
     } else {
-        order[v..u + 1].rotate_right(1);
+        order[v..=u].rotate_right(1);
     }
 }
 

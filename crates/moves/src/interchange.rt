@@ -14,13 +14,15 @@ fn places(units: usize, number: u32) -> (usize, usize)
     ensures value { result ≡ place_pair nat_lt units number }
     ensures within { (result.0 < units) × (result.1 < units) }
 {
-    let mut u = 0;
     let mut left = number as usize - 1;
-    while left >= units - u - 1 {
-        left -= units - u - 1;
-        u += 1;
+    for u in 0..units {
+        let later = units - u - 1;
+        if left < later {
+            return (u, u + 1 + left);
+        }
+        left -= later;
     }
-    (u, u + 1 + left)
+    unreachable!()
 }
 
 impl MoveKind for Interchange {
