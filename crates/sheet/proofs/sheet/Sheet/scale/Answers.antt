@@ -14,7 +14,7 @@ returns-in_err-marks c =
     let list = c.args.list.now in
     let p = err_from_is_err_and c.from_residual.result c.from_residual.ensures.1 in
     rw (p.1, p.2) (scale_refused (contents s) row list (answer_refusal c.in_err-marks.field-0.0)
-    (list_next (contents s) row list (le-ltb (length list) s.units (omega arith)) ∙ c.in_err-marks.ensures))
+    (list_next (contents s) row list (le-ltb (length list) s.units.count (omega arith)) ∙ c.in_err-marks.ensures))
 
 pub returns : goal.returns
 returns c =
@@ -24,4 +24,4 @@ returns c =
     let fits : SFits w64 c.in-Some.loss = search rules in
     rw (to_z-of_z w64 c.in-Some.loss fits)
     (scaled_here s c.in_ok-marks.marks m.1 c.args.row.now m.0 list c.coordinates.new.list c.in-Some.loss
-    (le-ltb (length list) s.units (omega arith)) c.in-Some.ensures)
+    (le-ltb (length list) s.units.count (omega arith)) c.in-Some.ensures)

@@ -28,7 +28,7 @@ returns g c =
     let m = c.in_ok-marks.ensures in
     record {
       answer = ap accepted (c.in-Some.ensures.1 ∙ total_same y s c.in_ok-marks.marks m.1 row)
-          ∙ ties_kept (contents s) row (total y (numbers (contents s)) s.units 0 (take s.units row)) m.0 (sym (keeps_same s row) ∙ sym c.if-not-keeps.ensures.test);
+          ∙ ties_kept (contents s) row (total y (numbers (contents s)) s.units.count 0 (take s.units.count row)) m.0 (sym (keeps_same s row) ∙ sym c.if-not-keeps.ensures.test);
     }
 
 pub unreachable-requires : goal.unreachable-requires
