@@ -60,15 +60,16 @@ module _ (k : Moves) (y : Merit) (m : Marks) (t : Ties) where
     pub moves : made + (improved_by k y m t (limit - made) o).made ≡ (improved_by k y m t limit from).made
     pub ends : (improved_by k y m t (limit - made) o).row ≡ (improved_by k y m t limit from).row
 
-  -- In a pass: no move was made in it yet, and none of those below i gives a better order.
-  pub record Scan (limit : ℕ) (from o : List ℕ) (had made : ℕ) (u : List ℤ) (i : ℕ) : Type 0 where
+  -- In a pass over some moves, which are all: none was made in it yet, and none of those below i gives a better order.
+  pub record Scan (limit : ℕ) (from o : List ℕ) (had made : ℕ) (u : List ℤ) (many i : ℕ) : Type 0 where
+    pub all : many ≡ k.many n
     pub same_made : made ≡ had
     pub so : Sofar limit from o made u
     pub none : NoneBelow u o i
 
   -- In a pass, where the move i was made on trial.
-  pub record Turn (limit : ℕ) (from o after : List ℕ) (had made : ℕ) (u : List ℤ) (i : ℕ) : Type 0 where
-    pub scan : Scan limit from o had made u i
+  pub record Turn (limit : ℕ) (from o after : List ℕ) (had made : ℕ) (u : List ℤ) (many i : ℕ) : Type 0 where
+    pub scan : Scan limit from o had made u many i
     pub least : 1 ≤ i
     pub most : i ≤ k.many n
     pub is : after ≡ k.moved n i o
@@ -92,11 +93,11 @@ module _ (k : Moves) (y : Merit) (m : Marks) (t : Ties) where
         ends = ap (λ (l : ℕ). (improved_by k y m t l o).row) all;
       }
 
-  pub turn : LawfulMoves k → {limit : ℕ} {from o after : List ℕ} {had made i many units : ℕ} {u : List ℤ} → Scan limit from o had made u i
-      → 1 ≤ i → i ≤ many → many ≡ k.many units → units ≡ n → after ≡ k.moved (length o) i o → Turn limit from o after had made u i
-  turn law {o = o} {after = after} {i = i} s l b all e moved =
+  pub turn : LawfulMoves k → {limit : ℕ} {from o after : List ℕ} {had made many i : ℕ} {u : List ℤ} → Scan limit from o had made u many i
+      → 1 ≤ i → i ≤ many → after ≡ k.moved (length o) i o → Turn limit from o after had made u many i
+  turn law {o = o} {after = after} {i = i} s l b moved =
       let is : after ≡ k.moved n i o = moved ∙ ap (λ (x : ℕ). k.moved x i o) s.so.order.as_many in
-      let most : i ≤ k.many n = omega (arith, ap k.many e) in
+      let most : i ≤ k.many n = omega (arith, s.all) in
       record { scan = s; least = l; most = most; is = is; order = subst (Order n) (sym is) (law.order_again n i o l most s.so.order) }
 
   module _ {limit : ℕ} {from o : List ℕ} {made : ℕ} {u : List ℤ} (so : Sofar limit from o made u) where
@@ -139,14 +140,14 @@ module _ (k : Moves) (y : Merit) (m : Marks) (t : Ties) where
       ∙ ap (λ (q : List ℕ). let d = improved_by k y m t limit q in record { made = suc d.made; row = d.row }) e
 
   -- no move gives a better order
-  pub ends_settled : {T : Type 0} (numbers : T → List ℤ) (best : T) {limit : ℕ} {from o : List ℕ} {had made i : ℕ} → length from ≡ n
-      → Scan limit from o had made (numbers best) i → k.many n < i
+  pub ends_settled : {T : Type 0} (numbers : T → List ℤ) (best : T) {limit : ℕ} {from o : List ℕ} {had made many i : ℕ} → length from ≡ n
+      → Scan limit from o had made (numbers best) many i → many < i
       → Reached k y m t numbers limit from o (record { made = made; total = best; settled = true })
   ends_settled numbers best {limit = limit} {o = o} {made = made} long w l =
-      let s = none_better w.so w.none l in
+      let s = none_better w.so w.none (omega (arith, w.all, l)) in
       answered w.so numbers best refl long true (sym s) (stays (limit - made) o s)
 
-  module _ {limit : ℕ} {from o after : List ℕ} {had made : ℕ} {u : List ℤ} {i : ℕ} (w : Turn limit from o after had made u i) where
+  module _ {limit : ℕ} {from o after : List ℕ} {had made many : ℕ} {u : List ℤ} {i : ℕ} (w : Turn limit from o after had made u many i) where
     -- the order on trial
     on_trial : (b : Bool) → passes y m t u (order_of m after) ≡ b → passes y m t u (k.moved n i o) ≡ b
     on_trial b e = subst (λ (q : List ℕ). passes y m t u q ≡ b) (whole after w.order.as_many ∙ w.is) e
@@ -161,9 +162,10 @@ module _ (k : Moves) (y : Merit) (m : Marks) (t : Ties) where
         e ∙ ap (λ (x : ℕ). take x saved) l ∙ s
 
     -- it does not give a better order
-    pub scanned_more : passes y m t u (order_of m after) ≡ false → (back : List ℕ) → back ≡ o → Scan limit from back had made u (i + 1)
+    pub scanned_more : passes y m t u (order_of m after) ≡ false → (back : List ℕ) → back ≡ o → Scan limit from back had made u many (i + 1)
     scanned_more fails back e =
-        subst (λ (q : List ℕ). Scan limit from q had made u (i + 1)) (sym e) (record {
+        subst (λ (q : List ℕ). Scan limit from q had made u many (i + 1)) (sym e) (record {
+          all = w.scan.all;
           same_made = w.scan.same_made;
           so = w.scan.so;
           none = λ j l b. ⊎_elim (w.scan.none j l) (λ q. let s : i ≡ j = omega arith in subst (λ (x : ℕ). passes y m t u (k.moved n x o) ≡ false) s (on_trial false fails)) (cases_lt j i);

@@ -66,7 +66,7 @@ fn passes<M: MoveKind, Y: Yardstick>(
     requires whole { length order.old ≡ units_of marks.now }
     ensures { Reached (moves_of M.MoveKind) (merit_of Y.Yardstick) marks.now ties.now Y.Yardstick.numbers limit order.old order.new result }
 {
-    let many = M::many(marks.units());
+    let many = M::many(marks.size());
     let mut made = 0;
     let mut best = start;
     'pass: loop {

@@ -10,7 +10,7 @@ fn other_units(rt: HostRuntime) -> Result<(), Fail> {
         return Ok(());
     };
     let mut row = [1, 3];
-    assert!(rt; matches!(sheet.interchange(2, &mut row), Err(MoveFault::Units)));
+    assert_eq!(rt; sheet.interchange(2, &mut row), Err(MoveFault::Units));
     assert_eq!(rt; row, [1, 3]);
     Ok(())
 }
@@ -22,7 +22,7 @@ fn short_row(rt: HostRuntime) -> Result<(), Fail> {
         return Ok(());
     };
     let mut row = [1, 1];
-    assert!(rt; matches!(sheet.insertion(2, &mut row), Err(MoveFault::Short)));
+    assert_eq!(rt; sheet.insertion(2, &mut row), Err(MoveFault::Short));
     assert_eq!(rt; row, [1, 1]);
     Ok(())
 }
@@ -34,10 +34,10 @@ fn no_order(rt: HostRuntime) -> Result<(), Fail> {
         return Ok(());
     };
     let mut row = [1, 3, 1, 2];
-    assert!(rt; matches!(sheet.interchange(2, &mut row), Err(MoveFault::NoOrder)));
+    assert_eq!(rt; sheet.interchange(2, &mut row), Err(MoveFault::NoOrder));
     assert_eq!(rt; row, [1, 3, 1, 2]);
     let mut high = [1, 2, 4];
-    assert!(rt; matches!(sheet.insertion(2, &mut high), Err(MoveFault::NoOrder)));
+    assert_eq!(rt; sheet.insertion(2, &mut high), Err(MoveFault::NoOrder));
     assert_eq!(rt; high, [1, 2, 4]);
     Ok(())
 }
@@ -48,12 +48,12 @@ fn against_a_tie(rt: HostRuntime) -> Result<(), Fail> {
         assert!(rt; false);
         return Ok(());
     };
-    assert!(rt; sheet.ties.set(2, 3, true));
+    assert_eq!(rt; sheet.ties.set(2, 3, true), Ok(()));
     let mut row = [1, 3, 2];
-    assert!(rt; matches!(sheet.interchange(2, &mut row), Err(MoveFault::Against)));
+    assert_eq!(rt; sheet.interchange(2, &mut row), Err(MoveFault::Against));
     assert_eq!(rt; row, [1, 3, 2]);
     let mut twice = [3, 2, 2];
-    assert!(rt; matches!(sheet.interchange(2, &mut twice), Err(MoveFault::NoOrder)));
+    assert_eq!(rt; sheet.interchange(2, &mut twice), Err(MoveFault::NoOrder));
     assert_eq!(rt; twice, [3, 2, 2]);
     Ok(())
 }

@@ -3,17 +3,13 @@ use crate::sheets::three;
 use moves::improve::{Improvement, MoveFault};
 use std::test::Fail;
 
-// Whether an answer is that of some moves, a total, and settled or not.
-fn is_answer(
-    answer: Result<Improvement<u64>, MoveFault>,
-    made: u32,
-    total: u64,
-    settled: bool,
-) -> bool {
-    match answer {
-        Ok(found) => found.made == made && found.total == total && found.settled == settled,
-        Err(_) => false,
-    }
+// The answer of some moves, a total, and settled or not.
+fn reached(made: u32, total: u64, settled: bool) -> Result<Improvement<u64>, MoveFault> {
+    Ok(Improvement {
+        made,
+        total,
+        settled,
+    })
 }
 
 #[test]
@@ -23,7 +19,7 @@ fn two_interchanges(rt: HostRuntime) -> Result<(), Fail> {
         return Ok(());
     };
     let mut row = [1, 3, 2];
-    assert!(rt; is_answer(sheet.interchange(2, &mut row), 2, 206, true));
+    assert_eq!(rt; sheet.interchange(2, &mut row), reached(2, 206, true));
     assert_eq!(rt; row, [3, 2, 1]);
     Ok(())
 }
@@ -35,8 +31,8 @@ fn settled_below_the_limit(rt: HostRuntime) -> Result<(), Fail> {
         return Ok(());
     };
     let mut row = [1, 3, 2];
-    assert!(rt; is_answer(sheet.interchange(9, &mut row), 2, 206, true));
-    assert!(rt; is_answer(sheet.interchange(0, &mut row), 0, 206, true));
+    assert_eq!(rt; sheet.interchange(9, &mut row), reached(2, 206, true));
+    assert_eq!(rt; sheet.interchange(0, &mut row), reached(0, 206, true));
     assert_eq!(rt; row, [3, 2, 1]);
     Ok(())
 }
@@ -48,7 +44,7 @@ fn one_interchange(rt: HostRuntime) -> Result<(), Fail> {
         return Ok(());
     };
     let mut row = [1, 3, 2];
-    assert!(rt; is_answer(sheet.interchange(1, &mut row), 1, 182, false));
+    assert_eq!(rt; sheet.interchange(1, &mut row), reached(1, 182, false));
     assert_eq!(rt; row, [3, 1, 2]);
     Ok(())
 }
@@ -60,7 +56,7 @@ fn no_interchange(rt: HostRuntime) -> Result<(), Fail> {
         return Ok(());
     };
     let mut row = [1, 3, 2, 77, 78];
-    assert!(rt; is_answer(sheet.interchange(0, &mut row), 0, 126, false));
+    assert_eq!(rt; sheet.interchange(0, &mut row), reached(0, 126, false));
     assert_eq!(rt; row, [1, 3, 2, 77, 78]);
     Ok(())
 }
@@ -72,9 +68,9 @@ fn insertions(rt: HostRuntime) -> Result<(), Fail> {
         return Ok(());
     };
     let mut row = [1, 3, 2, 77];
-    assert!(rt; is_answer(sheet.insertion(1, &mut row), 1, 182, false));
+    assert_eq!(rt; sheet.insertion(1, &mut row), reached(1, 182, false));
     assert_eq!(rt; row, [3, 1, 2, 77]);
-    assert!(rt; is_answer(sheet.insertion(1, &mut row), 1, 206, true));
+    assert_eq!(rt; sheet.insertion(1, &mut row), reached(1, 206, true));
     assert_eq!(rt; row, [1, 2, 3, 77]);
     Ok(())
 }
@@ -86,9 +82,9 @@ fn ties_are_kept(rt: HostRuntime) -> Result<(), Fail> {
         assert!(rt; false);
         return Ok(());
     };
-    assert!(rt; sheet.ties.set(1, 3, true));
+    assert_eq!(rt; sheet.ties.set(1, 3, true), Ok(()));
     let mut row = [1, 3, 2, 77];
-    assert!(rt; is_answer(sheet.interchange(9, &mut row), 1, 206, true));
+    assert_eq!(rt; sheet.interchange(9, &mut row), reached(1, 206, true));
     assert_eq!(rt; row, [1, 2, 3, 77]);
     Ok(())
 }

@@ -16,14 +16,10 @@ pub struct Sheet {
 pub fn three(tied_units: u64) -> Option<Sheet> {
     let mut marks = Marks::new(3)?;
     let ties = Ties::new(tied_units)?;
-    let first = marks.put(1, 2, 2);
-    let second = marks.put(1, 3, 7);
-    let third = marks.put(2, 3, 4);
-    if first && second && third {
-        Some(Sheet { marks, ties })
-    } else {
-        None
-    }
+    marks.put(1, 2, 2).ok()?;
+    marks.put(1, 3, 7).ok()?;
+    marks.put(2, 3, 4).ok()?;
+    Some(Sheet { marks, ties })
 }
 
 impl Sheet {

@@ -14,4 +14,4 @@ decreases-pass g l = l.limit - l.made
 abbrev pub invariant-loop-number : goal.invariant-loop-number
 invariant-loop-number g l =
     Scan (moves_of g.M.MoveKind) (merit_of g.Y.Yardstick) l.marks l.ties l.limit l.fn.order l.order l.initial.made l.made
-    (g.Y.Yardstick.numbers l.best) l.number
+    (g.Y.Yardstick.numbers l.best) l.many l.number
