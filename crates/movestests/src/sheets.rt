@@ -2,8 +2,7 @@
 use marks::marks::Marks;
 use marks::ties::Ties;
 use moves::improve::{Improvement, MoveFault, improve};
-use moves::insertion::Insertion;
-use moves::interchange::Interchange;
+use moves::kind::MoveKind;
 use yardsticks::spread::Spread;
 
 #[derive(Clone, Copy)]
@@ -23,11 +22,12 @@ pub fn three(tied_units: u64) -> Option<Sheet> {
 }
 
 impl Sheet {
-    pub fn interchange(&self, limit: u32, row: &mut [u8]) -> Result<Improvement<u64>, MoveFault> {
-        improve::<Interchange, Spread>(&self.marks, &self.ties, limit, row)
-    }
-
-    pub fn insertion(&self, limit: u32, row: &mut [u8]) -> Result<Improvement<u64>, MoveFault> {
-        improve::<Insertion, Spread>(&self.marks, &self.ties, limit, row)
+    // Improves the order in a row by one kind of move.
+    pub fn improve<M: MoveKind>(
+        &self,
+        limit: u32,
+        row: &mut [u8],
+    ) -> Result<Improvement<u64>, MoveFault> {
+        improve::<M, Spread>(&self.marks, &self.ties, limit, row)
     }
 }

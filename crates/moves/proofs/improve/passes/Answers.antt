@@ -1,4 +1,4 @@
-use Rattle.std.proofs.Common.{refl, ap, arith, rules}
+use Rattle.std.proofs.Common.{refl, arith, rules}
 use Rattle.moves.proofs.Laws.{lawful}
 use Rattle.moves.proofs.Passes as over
 use Rattle.moves.proofs.improve.passes.Goals as goal
