@@ -54,7 +54,8 @@ pub struct Improvement<T> {
 }
 
 // Scans the moves from the first on, makes the first that gives a better order, and scans again from the first move; ends
-// when there is none, or where there is one and the limit is reached.
+// when there is none, or where there is one and the limit is reached. Marks and ties are handed on one by one, as they
+// came: a struct of both would serve this function and one that it calls.
 fn passes<M: MoveKind, Y: Yardstick>(
     marks: &Marks,
     ties: &Ties,

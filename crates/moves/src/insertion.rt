@@ -9,7 +9,8 @@ use marks::units::Units;
 
 pub struct Insertion;
 
-// The places u and v ≠ u, from 0, of the move with a number: the moves are numbered by u, then by v.
+// The places u and v ≠ u, from 0, of the move with a number: the moves are numbered by u, then by v. Found by a division,
+// since each u has as many v as there are other units.
 fn places(units: usize, number: u32) -> (usize, usize)
     requires { (2 ≤ units) × ((1 ≤ number) × (number ≤ insertion.many units)) }
     ensures value { result ≡ place_pair (λ u v. not (u == v)) units number }
