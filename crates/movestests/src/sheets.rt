@@ -2,8 +2,7 @@
 use marks::marks::Marks;
 use marks::ties::Ties;
 use moves::improve::{Improvement, MoveFault, improve};
-use moves::insertion::Insertion;
-use moves::interchange::Interchange;
+use moves::kind::MoveKind;
 use yardsticks::spread::Spread;
 
 #[derive(Clone, Copy)]
@@ -16,22 +15,19 @@ pub struct Sheet {
 pub fn three(tied_units: u64) -> Option<Sheet> {
     let mut marks = Marks::new(3)?;
     let ties = Ties::new(tied_units)?;
-    let first = marks.put(1, 2, 2);
-    let second = marks.put(1, 3, 7);
-    let third = marks.put(2, 3, 4);
-    if first && second && third {
-        Some(Sheet { marks, ties })
-    } else {
-        None
-    }
+    marks.put(1, 2, 2).ok()?;
+    marks.put(1, 3, 7).ok()?;
+    marks.put(2, 3, 4).ok()?;
+    Some(Sheet { marks, ties })
 }
 
 impl Sheet {
-    pub fn interchange(&self, limit: u32, row: &mut [u8]) -> Result<Improvement<u64>, MoveFault> {
-        improve::<Interchange, Spread>(&self.marks, &self.ties, limit, row)
-    }
-
-    pub fn insertion(&self, limit: u32, row: &mut [u8]) -> Result<Improvement<u64>, MoveFault> {
-        improve::<Insertion, Spread>(&self.marks, &self.ties, limit, row)
+    // Improves the order in a row by one kind of move.
+    pub fn improve<M: MoveKind>(
+        &self,
+        limit: u32,
+        row: &mut [u8],
+    ) -> Result<Improvement<u64>, MoveFault> {
+        improve::<M, Spread>(&self.marks, &self.ties, limit, row)
     }
 }
