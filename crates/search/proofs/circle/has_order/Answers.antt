@@ -1,7 +1,7 @@
 use Rattle.std.proofs.Common.{◌≡◌, true, false, sym, add-one, arith}
 use Rattle.rules.specs.Recurrence.{placeable}
 use Rattle.marks.specs.Tied.{tied_of, tied_units}
-use Rattle.marks.proofs.Laws.{ties_most, ties_on_labels}
+use Rattle.marks.proofs.Laws.{ties_on_labels}
 use Rattle.search.proofs.Placing as placing
 use Rattle.search.proofs.circle.has_order.Goals as goal
 
@@ -12,7 +12,7 @@ pub loop-preserved : goal.loop-preserved
 loop-preserved c =
     let t = c.args.ties.now in
     let w = c.in-Some.ensures in
-    rw add-one (placing.put_placed (tied_of t) (tied_units t) _ _ c.loop.invariant (omega arith) c.in-Some.unit w.0 w.1 (ties_most t) c.with_unit-placed.ensures)
+    rw add-one (placing.put_placed (tied_of t) (tied_units t) _ _ c.loop.invariant (omega arith) c.in-Some.unit w.0 w.1 t.units.most c.with_unit-placed.ensures)
 
 pub returns-in_default : goal.returns-in_default
 returns-in_default c =
