@@ -62,19 +62,25 @@ impl<'a, Y: Yardstick> Stage<'a, Y> {
         requires { label (units_of self.now.tables.sheet.marks.now) unit ≡ true }
         ensures { MatchOption result (ready (tied_of self.now.tables.sheet.ties.now) (units_of self.now.tables.sheet.marks.now) self.now.placed unit ≡ false) (Led Y.Yardstick.numbers (merit_of Y.Yardstick) self.now.tables.sheet.marks.now self.now.tables.sheet.ties.now self.now.placed unit) }
     {
-        let Tables { sheet, totals, counts } = self.tables;
+        let Tables {
+            sheet,
+            totals,
+            counts,
+        } = self.tables;
         if !ready(sheet.ties, self.placed, unit) {
             return None;
         }
         let larger = with_unit(self.placed, unit) as usize;
         let step = Y::step(sheet.marks, self.placed, unit);
-        Some((Y::add(step, totals[larger]), counts[larger]))
+        let total = Y::add(step, totals[larger]);
+        Some((total, counts[larger]))
     }
 
     // The cell of the set: the greatest total that is reached, and in how many ways.
     pub(crate) fn cell(&self) -> (Y::Total, u64)
         ensures { CellOf Y.Yardstick.numbers (merit_of Y.Yardstick) self.now.tables.sheet.marks.now self.now.tables.sheet.ties.now self.now.placed result }
     {
+        // A flag, and places from 0, since an Option of both and `1..=units` cost 10 percent more instructions.
         let mut found = false;
         let mut best = Y::zero();
         let mut count = 0;

@@ -1,4 +1,4 @@
-use Rattle.std.proofs.Common.{rules, ◌≡◌, ◌+◌, sym, refl, ◌∙◌, arith}
+use Rattle.std.proofs.Common.{sym, ◌∙◌, arith}
 use Rattle.yardsticks.proofs.Laws.{lawful}
 use Rattle.search.proofs.Cells as cells
 use Rattle.search.proofs.Stages as stages

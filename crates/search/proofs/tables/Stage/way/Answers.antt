@@ -12,12 +12,12 @@ bounds-totals-larger g c = stages.in_totals (lawful g.met.Y.Yardstick) c.args.se
 pub bounds-counts-larger : goal.bounds-counts-larger
 bounds-counts-larger g c = stages.in_counts (lawful g.met.Y.Yardstick) c.args.self.now c.args.unit c.requires c.if-not-ready.ensures c.with_unit-larger.ensures
 
-pub add-requires : goal.add-requires
-add-requires g c =
+pub add-total-requires : goal.add-total-requires
+add-total-requires g c =
     stages.adds (lawful g.met.Y.Yardstick) c.args.self.now c.args.unit c.requires c.if-not-ready.ensures c.with_unit-larger.ensures
     c.step-step.ensures c.index-totals-larger.is
 
 pub returns : goal.returns
 returns g c =
     stages.led (lawful g.met.Y.Yardstick) c.args.self.now c.args.unit c.requires c.if-not-ready.ensures c.with_unit-larger.ensures
-    c.step-step.ensures c.index-totals-larger.is c.add.ensures
+    c.step-step.ensures c.index-totals-larger.is c.add-total.ensures
