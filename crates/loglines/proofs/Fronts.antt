@@ -1,10 +1,11 @@
 -- Words at the front of a text. Where words have no space and tell their values, a text is cut into them in one way.
-use Rattle.std.proofs.Common.{◌≡◌, ℕ, ◌<◌, List, [], ◌∷◌, ◌++◌, length, sym, refl, ap, ◌∙◌, append-nil, arith}
+use Rattle.std.proofs.Common.{◌≡◌, ℕ, ◌<◌, List, [], ◌∷◌, ◌++◌, length, Bool, Option, ◌==◌, sym, refl, ap, ◌∙◌, append-nil, false, arith, rules}
+use Rattle.std.specs.Bool.{then_some}
 use Rattle.loglines.specs.declared.token.Token.{Token}
 use Rattle.loglines.specs.Spans.{Free}
 use Rattle.loglines.specs.Words.{bytes, IsWord, Cut, NoWord}
 use Rattle.loglines.specs.Text.{spaced}
-use Rattle.loglines.specs.Readers.{Front, NoFront}
+use Rattle.loglines.specs.Readers.{Whole, Front, NoFront}
 use Rattle.loglines.proofs.Cuts.{word_free, cut_unique}
 use Rattle.loglines.proofs.Spellings.{token_word}
 
@@ -49,6 +50,13 @@ module _ {X : Type 0} {f : X → List ℕ} {Valid : X → Type 0} (law : Telling
   pub last_one : (rest : List ℕ) (x : X) (s : List ℕ) → Front f Valid rest x s → length s ≡ 0 → Valid x × (rest ≡ spaced f x)
   last_one rest x [] h z = (h.valid, h.whole ∙ append-nil (spaced f x))
   last_one rest x (b ∷ s) h z = absurd (omega arith)
+
+  -- the one word of a text, by whether anything follows it
+  pub last_told : (rest : List ℕ) (x : X) (s : List ℕ) (b : Bool) (o : Option X) → Front f Valid rest x s → b ≡ (length s == 0) → o ≡ then_some b x → Whole (spaced f) Valid rest o
+  last_told rest x [] b o h e is = rw (is, e) (last_one rest x [] h refl)
+  last_told rest x (c ∷ s) b o h e is =
+      let more : (length (c ∷ s) == 0) ≡ false = search rules in
+      rw (is, e, more) (last_over rest x (c ∷ s) h (omega arith))
 
   pub last_same : (x y : X) → Valid x → Valid y → spaced f x ≡ spaced f y → x ≡ y
   last_same x y v w e = let same : f x ≡ f y = cc in law.same x y v w same
