@@ -1,17 +1,12 @@
-use Rattle.std.proofs.Common.{sym, ap, ◌∙◌, arith, rules, take_all}
-use denote.Enum.Bare.{same_true, same_false}
-use Rattle.logreport.specs.contracts.count.Kind.{the_type}
-use Rattle.logreport.specs.Counts.{count_of}
-use Rattle.logreport.proofs.Counting.{count_same, count_other}
+use Rattle.std.proofs.Common.{◌∙◌, rules}
+use Rattle.std.proofs.lemmas.Iterator.{YieldsList-from_slice}
+use Rattle.std.proofs.lemmas.Iterator.Consumers.{count_from_yields_List, YieldsList-from_filter}
+use Rattle.std.proofs.lemmas.List.Sums.{length-filter}
+use Rattle.logreport.proofs.Counting.{same_tag}
 use Rattle.logreport.proofs.count.count.Goals as goal
-use Rattle.logreport.proofs.count.count.Goals.{then-eq, else-eq}
-
-pub loop-reading-preserved : goal.loop-reading-preserved
-loop-reading-preserved c =
-    elim c.if-eq.branch [
-      | then-eq w ↦ (w.n-is ∙ count_same _ _ _ _ _ c.loop-reading-test.true c.loop-reading.invariant.0 (sym c.kind_of.ensures ∙ same_true the_type (search rules) _ _ (sym w.if-eq.ensures)), omega (arith, w.n-is, c.loop-reading.invariant.1))
-      | else-eq w ↦ (w.n-is ∙ count_other _ _ _ _ _ c.loop-reading-test.true c.loop-reading.invariant.0 (λ e. same_false the_type _ _ (sym w.if-eq.ensures) (c.kind_of.ensures ∙ e)), omega (arith, w.n-is, c.loop-reading.invariant.1))
-    ]
 
 pub returns : goal.returns
-returns c = c.loop-reading.invariant.0 ∙ ap (count_of c.args.wanted) (take_all _ _ c.loop-reading-test.false)
+returns c =
+    count_from_yields_List c.filter.result c.count.result c.count.ensures.ran
+    (YieldsList-from_filter _ _ (YieldsList-from_slice c.args.readings.now cc) c.filter.ensures.closure (λ x b q k. search (rules, same_tag)))
+    ∙ length-filter _ c.args.readings.now

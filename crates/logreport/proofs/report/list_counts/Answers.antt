@@ -4,7 +4,7 @@ use Rattle.logreport.proofs.Listing.{totals_more}
 use Rattle.logreport.proofs.report.list_counts.Goals as goal
 
 pub loop-kind-preserved : goal.loop-kind-preserved
-loop-kind-preserved c = totals_more _ _ _ _ _ _ _ _ _ c.loop-kind-test.true c.loop-kind.invariant c.words-name.ensures c.count-n.ensures c.in_ok-writeln.ensures.bytes
+loop-kind-preserved c = totals_more _ _ _ _ _ _ _ _ c.loop-kind-test.true c.loop-kind.invariant c.count-n.ensures c.in_ok-writeln.ensures.bytes
 
 pub returns : goal.returns
 returns c =
