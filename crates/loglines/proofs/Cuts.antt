@@ -1,28 +1,20 @@
 -- Where a text is cut at a byte, and that it is cut so in one way.
-use Rattle.std.specs.Prelude.{◌≡◌, ℕ, ◌<◌, ◌≤◌, List, [], ◌∷◌, ◌++◌, length, take, drop, slice_index, Option, Some, None, MatchOption}
-use Rattle.std.proofs.Common.{sym, ap, subst, ◌∙◌, Bor, inl, inr, ⊎_elim, add-zero, arith, length-append, take-append-drop, length-drop, get_or-take, get_or-drop, get_or-append-add, length-take-le}
+use Rattle.std.specs.Prelude.{◌≡◌, ℕ, ◌≤◌, List, [], ◌∷◌, ◌++◌, length, take, drop, slice_index, Option, Some, None, MatchOption}
+use Rattle.std.proofs.Common.{sym, ap, subst, ◌∙◌, Bor, inl, inr, ⊎_elim, add-zero, arith, length-append, get_or-append-add}
 use Rattle.std.specs.List.{slice_get}
 use Rattle.std.specs.Option.{option_map}
 use Rattle.std.proofs.Math.Seq.{take-append_seam, drop-append_seam}
 use Rattle.std.proofs.lemmas.List.{get_or_append_left}
 use Rattle.std.proofs.lemmas.Option.{get_or_from_slice_get, slice_get_cases}
 use Rattle.std.proofs.str.Laws.{order}
-use Rattle.loglines.specs.declared.token.Token.{Token}
 use Rattle.loglines.specs.Spans.{Spans, Free, Stopped, parts}
-use Rattle.loglines.specs.Words.{IsWord, Tells, Cut, NoWord, part_at}
+use Rattle.loglines.specs.Words.{IsWord, NoWord, part_at}
 
 -- the first byte of what follows w
 at_seam : (w tail : List ℕ) → slice_index (w ++ tail) (length w) ≡ slice_index tail 0
 at_seam w tail = ap (λ k. slice_index (w ++ tail) k) (sym (add-zero (length w))) ∙ get_or-append-add w tail 0 0
 
 module _ (stop : ℕ) where
-  -- the bytes before the first stop have none
-  pub span_free : (s : List ℕ) (n : ℕ) → Spans stop s n → Free stop (take n s)
-  span_free s n sp i lt e =
-      let long = length-take-le n s sp.within in
-      let under : i < n = omega arith in
-      sp.before i under (sym (get_or-take n s i 0 under) ∙ e)
-
   pub span_unique : (w tail : List ℕ) (n : ℕ) → Free stop w → Stopped stop tail → Spans stop (w ++ tail) n → n ≡ length w
   span_unique w tail n free at sp =
       let long = length-append w tail in
@@ -67,22 +59,8 @@ no_word rest after n e sp none w tail is stop e' =
     let back = sym same in
     none (subst IsWord (sym (take-append_seam w tail) ∙ (λ i. take (here i) (back i))) is)
 
--- where they are one
-pub one_word : (rest after : List ℕ) (n : ℕ) (t : Token) → rest ≡ 32 ∷ after → Spans 32 after n → Tells (take n after) t → Cut rest t (drop n after)
-one_word rest after n t e sp told = record {
-  whole = e ∙ ap (λ l. 32 ∷ l) (sym (take-append-drop n after) ∙ ap (λ l. l ++ drop n after) (sym told.same));
-  kind = told.kind;
-  stop = λ lt. get_or-drop n after 0 0 ∙ ap (λ k. slice_index after k) (add-zero n) ∙ sp.stops (omega (arith, length-drop n after));
-}
-
 -- the part at a place, where it is one of the parts of the line
 pub part_read : (line : List ℕ) (place : ℕ) (r : Option (Bor (List ℕ))) → option_map (λ s. s.now) r ≡ slice_get (parts 32 line) place
     → MatchOption r (length (parts 32 line) ≤ place) (λ s. s.now ≡ part_at line place)
 part_read line place (Some s) e = sym (get_or_from_slice_get (parts 32 line) place s.now [] (sym e))
 part_read line place None e = ⊎_elim (λ h. let one = h.2 in cc) (λ h. h.0) (slice_get_cases (parts 32 line) place).1
-
--- no part stands there, and no word either
-pub empty_no_word : IsWord [] → ⊥
-empty_no_word (inl c) = omega (arith, c.one)
-empty_no_word (inr (inl d)) = omega (arith, d.some)
-empty_no_word (inr (inr h)) = omega (arith, ap length h)

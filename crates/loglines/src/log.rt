@@ -65,6 +65,7 @@ fn read_lines(heap: Global, lines: &[&[u8]]) -> Result<Vec<Reading>, AllocError>
 }
 
 // What the lines of a whole log ask for, one reading for each line.
+#[tactic(auto, using(crate::proofs::Commands::one_command))]
 pub fn read_log(heap: Global, input: &[u8]) -> Result<Vec<Reading>, LogError>
     ensures read { MatchResult result (λ v. LogRead input.now v.items) (λ e. Uncut input.now e) }
     ensures one_command { OneCommand }

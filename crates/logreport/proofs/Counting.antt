@@ -1,16 +1,10 @@
--- The lines of a kind are counted by `==`, and every line is counted once.
-use Rattle.std.proofs.Common.{◌≡◌, ◌+◌, Bool, cond, eqb, ◌==◌, List, [], ◌∷◌, refl, arith}
-use denote.Enum.Bare.{sameb}
+-- Every line is counted once.
+use Rattle.std.proofs.Common.{◌≡◌, ◌+◌, cond, eqb, List, [], ◌∷◌, refl, arith}
 use Rattle.std.proofs.lemmas.List.Sums.{sum_by-cons}
 use Rattle.loglines.specs.Readings.{Reading}
 use Rattle.logreport.specs.declared.count.Kind.{Kind}
 use Rattle.logreport.specs.declared.count.Kind.TheVariants.{Opening, Number, Gap, Tie, Untie, Ranking, Refusal}
-use Rattle.logreport.specs.contracts.count.Kind.{the_type}
 use Rattle.logreport.specs.Counts.{kind_of, tag, count_of, EachOnce}
-
--- the derived `==` of kinds is the test on their numbers
-pub same_tag : (b : Bool) (j k : Kind) → b ≡ sameb the_type j k → b ≡ (tag j == tag k)
-same_tag b j k e = grind arith
 
 -- one line more
 count_more : (k : Kind) (r : Reading) (rs : List Reading) → count_of k (r ∷ rs) ≡ cond (eqb (tag (kind_of r)) (tag k)) 1 0 + count_of k rs
