@@ -46,10 +46,6 @@ one_more input ls rest line tail h f = record {
       h.whole;
 }
 
-pub texts_snoc : (ls : List (Bor (List ℕ))) (l : Bor (List ℕ)) → texts (ls ++ (l ∷ [])) ≡ texts ls ++ (l.now ∷ [])
-texts_snoc [] l = refl
-texts_snoc (k ∷ ls) l = ap (λ t. k.now ∷ t) (texts_snoc ls l)
-
 -- lines with their line feeds tell the lines
 fed_same : (ls ms : List (List ℕ)) → AllByRecursion (Free 10) ls → AllByRecursion (Free 10) ms → fed ls ≡ fed ms → ls ≡ ms
 fed_same [] [] fl fm e = refl

@@ -28,6 +28,7 @@ pub fn next_line(rest: &[u8]) -> Option<(&[u8], &[u8])>
 
 // The lines of an input of at most 32,768 bytes, without their line feeds.
 // A last line that has no line feed counts if it has a byte.
+// A loop over `next_line`, since an iterator of its own says the same in more lines.
 pub fn lines(heap: Global, input: &[u8]) -> Result<Vec<&[u8]>, LogError>
     ensures { MatchResult result (λ v. (length input.now ≤ 32768) × Lines input.now (texts v.items)) (λ e. Uncut input.now e) }
 {
