@@ -1,9 +1,9 @@
 -- Cutting an input at its line feeds: what each turn keeps, and that the cut is the only one.
-use Rattle.std.proofs.Common.{◌≡◌, ℕ, ◌+◌, ◌-◌, ◌<◌, ◌⊎◌, List, [], ◌∷◌, ◌++◌, length, get_or, drop, sym, refl, ap, ◌∙◌, inl, inr, ⊎_elim, append_assoc, append-nil, arith, length-append, get_or-append-add, Bor}
+use Rattle.std.proofs.Common.{◌≡◌, ℕ, ◌+◌, ◌-◌, ◌<◌, ◌⊎◌, List, [], ◌∷◌, ◌++◌, length, get_or, drop, sym, refl, ap, ◌∙◌, inl, inr, ⊎_elim, append_assoc, append-nil, arith, length-append, get_or-append-add}
 use Rattle.std.specs.List.{AllByRecursion}
 use Rattle.std.proofs.slice.Lists.{all_by_recursion_push}
 use Rattle.loglines.specs.Spans.{Free}
-use Rattle.loglines.specs.Lines.{fed, Unended, First, texts, OneCut}
+use Rattle.loglines.specs.Lines.{fed, Unended, First, OneCut}
 use Rattle.loglines.proofs.Cuts.{cut_unique}
 
 pub first_less : (rest line tail : List ℕ) → First rest line tail → length tail < length rest

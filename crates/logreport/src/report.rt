@@ -1,6 +1,6 @@
 ghost use Rattle.std.specs.Prelude.{◌≡◌, ◌++◌, IfOk, IfErr, string_bytes, OnOk};
 ghost use Rattle.logreport.specs.Counts.{EachOnce};
-ghost use Rattle.logreport.specs.Reports.{listing, totals, summary, refusal, Reported, OneReport};
+ghost use Rattle.logreport.specs.Reports.{listing, summary, refusal, Reported, OneReport};
 
 use crate::count::{Kind, count};
 use crate::said::Said;
@@ -23,24 +23,17 @@ fn list(out: &mut String, readings: &[Reading]) -> Result<(), AllocError>
     Ok(())
 }
 
-// Adds a line for each of these kinds, with how many readings are of it.
-fn list_counts(out: &mut String, kinds: &[Kind], readings: &[Reading]) -> Result<(), AllocError>
-    ensures { OnOk result (string_bytes out.new ≡ string_bytes out.old ++ totals kinds.now readings.now) }
-{
-    for kind in kinds {
-        let n = count(readings, *kind);
-        writeln!(out, "{kind} {n}")?;
-    }
-    Ok(())
-}
-
-// Adds the number of lines, and of each kind.
+// Adds the number of lines, and a line for each kind with how many readings are of it.
 fn sum_up(out: &mut String, readings: &[Reading]) -> Result<(), AllocError>
     ensures { OnOk result (string_bytes out.new ≡ string_bytes out.old ++ summary readings.now) }
 {
     let lines = readings.len();
     writeln!(out, "lines read {lines}")?;
-    list_counts(out, &Kind::ALL, readings)
+    for kind in Kind::ALL {
+        let n = count(readings, kind);
+        writeln!(out, "{kind} {n}")?;
+    }
+    Ok(())
 }
 
 // The report on a log that is read.
