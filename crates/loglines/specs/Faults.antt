@@ -5,11 +5,13 @@ use Rattle.loglines.specs.declared.fault.LogFault.TheVariants.{Size, Form, Long}
 use Rattle.loglines.specs.declared.fault.LogError.{LogError}
 use Rattle.loglines.specs.declared.fault.LogError.TheVariants.{Refused, NoMemory}
 
+-- two faults have one number
 abbrev pub number_of : LogFault → ℕ
 number_of Size = 1
 number_of Form = 11
 number_of Long = 11
 
+-- the texts that faults and errors are shown by
 abbrev pub fault_words : LogFault → List ℕ
 fault_words Size = codes "a log opens a sheet of 2 to 11 units"
 fault_words Form = codes "the line has no form in this state"
