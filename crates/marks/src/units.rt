@@ -37,13 +37,6 @@ impl Units {
         }
     }
 
-    // How many they are.
-    pub fn count(self) -> usize
-        ensures { result ≡ self.count }
-    {
-        self.count
-    }
-
     // Whether a is the label of one of them.
     pub fn has_label(self, a: usize) -> bool
         ensures { result ≡ label self.count a }

@@ -44,7 +44,7 @@ impl MoveKind for Insertion {
     ghost order_again = { moves_lawful.1.order_again };
 
     fn many(units: Units) -> u32 {
-        let n = units.count();
+        let n = units.count;
         (n * (n - 1)) as u32
     }
 

@@ -36,7 +36,7 @@ impl MoveKind for Interchange {
     ghost order_again = { moves_lawful.0.order_again };
 
     fn many(units: Units) -> u32 {
-        let n = units.count();
+        let n = units.count;
         (n * (n - 1) / 2) as u32
     }
 

@@ -29,7 +29,7 @@ fn cell<Y: Yardstick>(tables: Tables<Y>, placed: u32) -> (Y::Total, u64)
 fn set_count(units: Units) -> usize
     ensures { result ≡ 2 ^ units.count }
 {
-    1 << units.count()
+    1 << units.count
 }
 
 // Fills the cells of all sets; cells past them stay.

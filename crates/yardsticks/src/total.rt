@@ -8,19 +8,7 @@ ghost use Rattle.yardsticks.specs.Totals.{order_of, total_of, Totals};
 
 use crate::yardstick::Yardstick;
 use marks::marks::Marks;
-use marks::rows::is_order;
 use marks::sets::with_unit;
-
-// The order that a row begins with: as many labels as there are units. None unless they are an order.
-fn order_in<'a>(marks: &Marks, row: &'a [u8]) -> Option<&'a [u8]>
-    ensures { MatchOption result (is_order (units_of marks.now) (order_of marks.now row.now) ≡ false) (λ o. (is_order (units_of marks.now) o.now ≡ true) × (o.now ≡ order_of marks.now row.now)) }
-{
-    let units = marks.units();
-    if !is_order(row, units) {
-        return None;
-    }
-    Some(&row[..units])
-}
 
 // The total of an order.
 fn sum<Y: Yardstick>(marks: &Marks, order: &[u8]) -> Y::Total
@@ -41,7 +29,7 @@ fn sum<Y: Yardstick>(marks: &Marks, order: &[u8]) -> Y::Total
 pub fn total<Y: Yardstick>(marks: &Marks, row: &[u8]) -> Option<Y::Total>
     ensures { Totals (merit_of Y.Yardstick) Y.Yardstick.numbers marks.now row.now result }
 {
-    let order = order_in(marks, row)?;
+    let order = marks.order_in(row)?;
     Some(sum::<Y>(marks, order))
 }
 
