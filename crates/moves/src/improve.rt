@@ -13,7 +13,7 @@ use yardsticks::total::total;
 use yardsticks::yardstick::Yardstick;
 
 // Why there is no answer.
-#[derive(Clone, Copy)]
+#[derive(Clone, Copy, PartialEq, Eq, Debug)]
 pub enum MoveFault {
     // marks and ties are of different numbers of units
     Units,
@@ -26,7 +26,7 @@ pub enum MoveFault {
 }
 
 // How many moves were made, the total reached, and whether no move gives a better order from there.
-#[derive(Clone, Copy)]
+#[derive(Clone, Copy, PartialEq, Eq, Debug)]
 pub struct Improvement<T> {
     pub made: u32,
     pub total: T,

@@ -7,7 +7,7 @@ ghost use Rattle.rules.specs.Theorems.{Opens, RowTestsMean, YardsticksLawful, Mo
 ghost use Rattle.rules.specs.Examples.{WorkedExamples};
 
 // The mark of a pair: a gap, or how unlike its two units are.
-#[derive(Clone, Copy)]
+#[derive(Clone, Copy, PartialEq, Eq, Debug)]
 pub enum Mark {
     Gap,
     Number(u16),

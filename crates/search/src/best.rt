@@ -11,7 +11,7 @@ use marks::ties::Ties;
 use yardsticks::yardstick::Yardstick;
 
 // Why there is no answer.
-#[derive(Clone, Copy)]
+#[derive(Clone, Copy, PartialEq, Eq, Debug)]
 pub enum SearchFault {
     // marks and ties are of different numbers of units
     Units,

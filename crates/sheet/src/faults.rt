@@ -8,14 +8,14 @@ use moves::improve::MoveFault;
 use search::best::SearchFault;
 
 // Which of the two labels handed to a call.
-#[derive(Clone, Copy)]
+#[derive(Clone, Copy, PartialEq, Eq, Debug)]
 pub enum Label {
     First,
     Second,
 }
 
 // Why a sheet is not opened or changed.
-#[derive(Clone, Copy)]
+#[derive(Clone, Copy, PartialEq, Eq, Debug)]
 pub enum SheetFault {
     // a sheet has 2 to 20 units
     Size,
@@ -42,7 +42,7 @@ impl SheetFault {
 }
 
 // Why there is no answer from the marks.
-#[derive(Clone, Copy)]
+#[derive(Clone, Copy, PartialEq, Eq, Debug)]
 pub enum AnswerFault {
     // a table, row or list is too short
     Short,

@@ -12,7 +12,7 @@ use marks::marks::Marks;
 use marks::sets::has;
 
 // The numbers of a gradient total: signs, and differences of marks.
-#[derive(Clone, Copy)]
+#[derive(Clone, Copy, PartialEq, Eq, PartialOrd, Ord, Debug)]
 pub struct Grades {
     pub signs: i32,
     pub rises: i32,
