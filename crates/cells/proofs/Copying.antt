@@ -1,10 +1,11 @@
 -- The numbers of the cells, copied row by row.
-use Rattle.std.proofs.Common.{◌≡◌, ℕ, ◌+◌, ◌<◌, ◌≤◌, min, max, Bool, true, false, cond, ◌&&◌, ◌≢◌, get_or, sym, ap, ◌∙◌, inl, inr, arith}
+use Rattle.std.proofs.Common.{◌≡◌, ℕ, ◌+◌, ◌<◌, ◌≤◌, min, max, Bool, true, false, cond, ◌&&◌, leb, ◌≢◌, get_or, sym, refl, ap, ◌∙◌, inl, inr, arith, Result, is_ok}
 use Rattle.std.proofs.lemmas.Bool.{cases_Bool, cases_order, cases_eq}
 use Rattle.std.proofs.lemmas.Bool.Decides.{nat_tests}
 use Rattle.rules.specs.declared.Mark.TheVariants.{Gap}
 use Rattle.rules.specs.Sheets.{same_pair}
 use Rattle.marks.specs.declared.marks.Marks.{Marks}
+use Rattle.marks.specs.declared.faults.MarkFault.{MarkFault}
 use Rattle.marks.specs.Cells.{pair}
 use Rattle.marks.specs.Numbers.{units_of, numbers_of, Put}
 use Rattle.marks.proofs.Cells.{two}
@@ -21,7 +22,7 @@ pub record RowSoFar (t : Triangle) (a i : ℕ) (m k : Marks) : Type 0 where
   pub others : (x y : ℕ) → x < y → x ≢ a → numbers_of k x y ≡ numbers_of m x y
 
 -- one pair more
-pub row_more : (t : Triangle) (a i d : ℕ) (m k l : Marks) (r : Bool) → 1 ≤ a → a ≤ i → i < units_of m → d ≡ low_value (mark_at t a (i + 1)) → d ≤ 10000
+pub row_more : (t : Triangle) (a i d : ℕ) (m k l : Marks) (r : Result (Unit {0}) MarkFault) → 1 ≤ a → a ≤ i → i < units_of m → d ≡ low_value (mark_at t a (i + 1)) → d ≤ 10000
     → RowSoFar t a i m k → Put k a (i + 1) d r l → RowSoFar t a (i + 1) m l
 row_more t a i d m k l r la li hi e low s p = record {
   size = p.size ∙ s.size;
@@ -38,8 +39,12 @@ row_more t a i d m k l r la li hi e low s p = record {
       p.marks x y ∙ (λ j. cond (done j && b j) d (numbers_of k x y)) ∙ s.others x y g ne;
 }
   where
-    done : r ≡ true
-    done = p.answered ∙ (let n = units_of k in let q : units_of k ≡ units_of m = s.size in grind (arith, nat_tests))
+    done : is_ok r ≡ true
+    done =
+        let q : units_of k ≡ units_of m = s.size in
+        let labels : pair (units_of k) a (i + 1) ≡ true = grind (arith, nat_tests) in
+        let few : leb d 10000 ≡ true = grind (arith, nat_tests) in
+        rw (p.answered, labels, few) refl
 
 -- the pairs whose lower label is at most i are copied
 pub record SoFar (t : Triangle) (n i : ℕ) (m : Marks) : Type 0 where

@@ -9,10 +9,10 @@ use Rattle.marks.specs.Tied.{tied_units, tied_of}
 use Rattle.marks.proofs.TieSets.{on_labels}
 
 pub least : (m : Marks) → 2 ≤ units_of m
-least m = m.least
+least m = m.units.least
 
 pub most : (m : Marks) → units_of m ≤ 20
-most m = m.most
+most m = m.units.most
 
 pub symmetric : (m : Marks) → Symmetric (numbers_of m)
 symmetric m = m.symmetric
@@ -21,10 +21,10 @@ pub low : (m : Marks) → Low (numbers_of m)
 low m = m.low
 
 pub ties_least : (t : Ties) → 2 ≤ tied_units t
-ties_least t = t.least
+ties_least t = t.units.least
 
 pub ties_most : (t : Ties) → tied_units t ≤ 20
-ties_most t = t.most
+ties_most t = t.units.most
 
 pub ties_on_labels : (t : Ties) → OnLabels (tied_of t) (tied_units t)
-ties_on_labels t = on_labels t.units t.before
+ties_on_labels t = on_labels t.units.count t.before

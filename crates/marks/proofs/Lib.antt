@@ -3,4 +3,3 @@ pub mod Cells
 pub mod Displaced
 pub mod Laws
 pub mod TieSets
-pub mod Scans

@@ -1,17 +1,16 @@
 // The marks of a sheet without gaps, with what always holds of them.
-ghost use Rattle.std.specs.Prelude.{◌≤◌};
 ghost use Rattle.rules.specs.Yardsticks.{Low, Symmetric};
 ghost use Rattle.marks.specs.Cells.{read};
 
+use crate::units::Units;
+
 pub mod ops;
 
-// Row by row, so that the marks of one unit lie side by side.
+// Row by row, so that the marks of one unit lie side by side. Fixed memory: twenty rows, also for fewer units.
 #[derive(Clone, Copy)]
 pub struct Marks {
-    units: usize,
+    units: Units,
     cells: [u16; 400],
-    ghost least: { 2 ≤ units },
-    ghost most: { units ≤ 20 },
-    ghost symmetric: { Symmetric (read units cells) },
-    ghost low: { Low (read units cells) },
+    ghost symmetric: { Symmetric (read units.count cells) },
+    ghost low: { Low (read units.count cells) },
 }

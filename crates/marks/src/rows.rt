@@ -6,74 +6,56 @@ ghost use Rattle.rules.specs.Units.{label};
 ghost use Rattle.rules.specs.Orders.{Order, is_order, keeps};
 ghost use Rattle.marks.specs.Tied.{tied_of, first_of, KeepsIf};
 
-use crate::labels::is_label;
 use crate::ties::Ties;
+use crate::units::is_label;
 
 // The first n of a row, or all of it where it is shorter.
 fn first(row: &[u8], n: usize) -> &[u8]
     ensures { result.now ≡ take n row.now }
 {
-    if row.len() < n { row } else { &row[0..n] }
+    row.get(..n).unwrap_or(row)
 }
 
 // Whether a row holds labels only.
 fn all_labels(row: &[u8], n: usize) -> bool
     ensures { result ≡ list_all (label n) row.now }
 {
-    for a in row {
-        if !is_label(n, *a as usize) {
-            return false;
-        }
-    }
-    true
+    row.iter().all(|a| is_label(n, usize::from(*a)))
 }
 
 // Whether a row lacks a label.
 fn lacks(row: &[u8], a: u8) -> bool
     ensures { result ≡ list_all (λ b. not (a == b)) row.now }
 {
-    for b in row {
-        if a == *b {
-            return false;
-        }
-    }
-    true
+    row.iter().all(|b| a != *b)
 }
 
 // Whether a row holds nothing twice.
 fn all_differ(row: &[u8]) -> bool
     ensures { result ≡ is_distinct nat_eq row.now }
 {
-    for (i, a) in row.iter().enumerate() {
-        if !lacks(&row[i + 1..], *a) {
-            return false;
-        }
+    match row {
+        [] => true,
+        [a, rest @ ..] => lacks(rest, *a) && all_differ(rest),
     }
-    true
 }
 
 // Whether none of a row is tied before b.
 fn none_earlier(ties: &Ties, row: &[u8], b: u8) -> bool
     ensures { result ≡ list_all (λ a. not (tied_of ties.now a b)) row.now }
 {
-    for a in row {
-        if ties.tied(*a as usize, b as usize) {
-            return false;
-        }
-    }
-    true
+    row.iter()
+        .all(|a| !ties.tied(usize::from(*a), usize::from(b)))
 }
 
 // Whether nothing of a row is tied before what stands earlier in it or before itself.
 fn all_keep(ties: &Ties, row: &[u8]) -> bool
     ensures { result ≡ keeps (tied_of ties.now) row.now }
 {
-    for (i, b) in row.iter().enumerate() {
-        if !none_earlier(ties, &row[i..], *b) {
-            return false;
-        }
+    match row {
+        [] => true,
+        [b, rest @ ..] => none_earlier(ties, row, *b) && all_keep(ties, rest),
     }
-    true
 }
 
 // Whether a row is an order of n units.

@@ -5,8 +5,9 @@ ghost use Rattle.marks.specs.Cells.{place, is_size, added};
 ghost use Rattle.marks.specs.Numbers.{units_of, numbers_of, Blank, Put};
 
 use super::Marks;
-use crate::labels::{is_label, is_pair, is_size};
+use crate::faults::MarkFault;
 use crate::sets::has;
+use crate::units::Units;
 
 // The cell of the mark of two units.
 fn place(a: usize, b: usize) -> usize
@@ -18,7 +19,7 @@ fn place(a: usize, b: usize) -> usize
 }
 
 // Cells that are all 0.
-fn blank() -> [u16; 400]
+fn zeros() -> [u16; 400]
     ensures { result ≡ replicate 400 0 }
 {
     [0; 400]
@@ -59,39 +60,53 @@ impl Marks {
     pub fn new(units: u64) -> Option<Marks>
         ensures { MatchOption result (is_size units ≡ false) (λ m. (is_size units ≡ true) × Blank units m) }
     {
-        if !is_size(units) {
-            return None;
+        Some(Marks::blank(Units::new(units)?))
+    }
+
+    // The same for a number of units that a sheet may have.
+    pub fn blank(units: Units) -> Marks
+        ensures { Blank units.count result }
+    {
+        Marks {
+            units,
+            cells: zeros(),
         }
-        Some(Marks {
-            units: units as usize,
-            cells: blank(),
-        })
     }
 
     // How many units there are.
     pub fn units(&self) -> usize
         ensures { result ≡ units_of self.now }
     {
+        self.size().count()
+    }
+
+    // The same, with its bounds.
+    pub fn size(&self) -> Units
+        ensures { result.count ≡ units_of self.now }
+    {
         self.units
     }
 
-    // Gives a pair its mark, in both directions. Answers false, and changes nothing, if a and b are not two of the units
-    // or the mark is above 10,000.
-    pub fn put(&mut self, a: usize, b: usize, d: u16) -> bool
+    // Gives a pair its mark, in both directions. Refused, and nothing is changed, if a and b are not two of the units or
+    // the mark is above 10,000.
+    pub fn put(&mut self, a: usize, b: usize, d: u16) -> Result<(), MarkFault>
         ensures { Put self.old a b d result self.new }
     {
-        if !is_pair(self.units, a, b) || !is_low(d) {
-            return false;
+        if !self.units.has_pair(a, b) {
+            return Err(MarkFault::NoPair);
+        }
+        if !is_low(d) {
+            return Err(MarkFault::High);
         }
         store(&mut self.cells, a, b, d);
-        true
+        Ok(())
     }
 
     // The mark of two units, 0 if a and b are not two of the units.
     pub fn mark(&self, a: usize, b: usize) -> u16
         ensures { result ≡ numbers_of self.now a b }
     {
-        if is_pair(self.units, a, b) {
+        if self.units.has_pair(a, b) {
             self.cells[place(a, b)]
         } else {
             0
@@ -102,11 +117,11 @@ impl Marks {
     pub fn displacement(&self, placed: u32, unit: usize) -> i64
         ensures { result ≡ displacement (numbers_of self.now) (units_of self.now) placed unit }
     {
-        if !is_label(self.units, unit) {
+        if !self.units.has_label(unit) {
             return 0;
         }
         let start = (unit - 1) * 20;
-        let row = &self.cells[start..start + self.units];
+        let row = &self.cells[start..start + self.units.count()];
         let mut sum = 0;
         for (i, mark) in row.iter().enumerate() {
             sum += term(*mark, i + 1 == unit, has(placed, i + 1));

@@ -5,8 +5,9 @@ ghost use Rattle.marks.specs.Cells.{is_size};
 ghost use Rattle.marks.specs.Tied.{tied_units, tied_of, Untied, TieSet, EarlierSet};
 
 use super::Ties;
-use crate::labels::{is_label, is_pair, is_size};
+use crate::faults::MarkFault;
 use crate::sets::has;
+use crate::units::Units;
 
 // Twenty empty sets.
 fn empty() -> [u32; 20]
@@ -41,38 +42,49 @@ impl Ties {
     pub fn new(units: u64) -> Option<Ties>
         ensures { MatchOption result (is_size units ≡ false) (λ t. (is_size units ≡ true) × Untied units t) }
     {
-        if !is_size(units) {
-            return None;
-        }
-        Some(Ties {
-            units: units as usize,
+        Some(Ties::none(Units::new(units)?))
+    }
+
+    // The same for a number of units that a sheet may have.
+    pub fn none(units: Units) -> Ties
+        ensures { Untied units.count result }
+    {
+        Ties {
+            units,
             before: empty(),
-        })
+        }
     }
 
     // For how many units the ties are.
     pub fn units(&self) -> usize
         ensures { result ≡ tied_units self.now }
     {
+        self.size().count()
+    }
+
+    // The same, with its bounds.
+    pub fn size(&self) -> Units
+        ensures { result.count ≡ tied_units self.now }
+    {
         self.units
     }
 
-    // Says whether a stands earlier than b. Answers false, and changes nothing, if a and b are not two of the units.
-    pub fn set(&mut self, a: usize, b: usize, stands: bool) -> bool
+    // Says whether a stands earlier than b. Refused, and nothing is changed, if a and b are not two of the units.
+    pub fn set(&mut self, a: usize, b: usize, stands: bool) -> Result<(), MarkFault>
         ensures { TieSet self.old a b stands result self.new }
     {
-        if !is_pair(self.units, a, b) {
-            return false;
+        if !self.units.has_pair(a, b) {
+            return Err(MarkFault::NoPair);
         }
         self.before[b - 1] = changed(self.before[b - 1], a, stands);
-        true
+        Ok(())
     }
 
     // The set of the units that stand earlier than a unit, empty for what is no unit.
     pub fn before(&self, unit: usize) -> u32
         ensures { EarlierSet self.now unit result }
     {
-        if is_label(self.units, unit) {
+        if self.units.has_label(unit) {
             self.before[unit - 1]
         } else {
             0

@@ -13,6 +13,6 @@ returns c =
     record {
       test = e;
       means = λ o.
-          let w = row_tests_mean.ties (tied_of t) t.units (ties_on_labels t) (first_of t row) o in
+          let w = row_tests_mean.ties (tied_of t) t.units.count (ties_on_labels t) (first_of t row) o in
           (λ h. w.0 (sym e ∙ h), λ k. e ∙ w.1 k);
     }

@@ -18,9 +18,9 @@ grown c =
     let A = c.args.placed in
     let j = c.args.unit in
     let i = c.loop-i.i in
-    let l : c.loop-i.i < c.args.self.now.units = search rules in
+    let l : c.loop-i.i < c.args.self.now.units.count = search rules in
     let t : c.term-sum.result ≡ added (p (i + 1) j) (eqb (i + 1) j) (has A (i + 1)) =
-    c.term-sum.ensures ∙ row_added s.units s.cells s.symmetric A j (sym c.if-not-is_label.ensures) i l c.has.result c.has.ensures in
+    (rw c.count.ensures at c.term-sum.ensures) ∙ row_added s.units.count s.cells s.symmetric A j (sym c.if-not-has_label.ensures) i l c.has.result c.has.ensures in
     let so_far = sym c.loop-i.sum-is ∙ c.loop-i.invariant in
     let e = next p A j i ∙ (λ k. sym so_far k +ℤ sym t k) in
     let f = not_far p A j s.low (i + 1) in
@@ -32,8 +32,8 @@ loop-i-preserved c = let g = grown c in omega (arith, ints)
 pub overflow_add-sum : goal.overflow_add-sum
 overflow_add-sum c = let g = grown c in omega (arith, ints)
 
-pub returns-then-not-is_label : goal.returns-then-not-is_label
-returns-then-not-is_label c =
+pub returns-then-not-has_label : goal.returns-then-not-has_label
+returns-then-not-has_label c =
     let s = c.args.self.now in
-    let none = no_label s.units s.cells c.args.unit (sym c.if-not-is_label.ensures) in
-    sym (unmarked (numbers_of s) c.args.placed c.args.unit none s.units)
+    let none = no_label s.units.count s.cells c.args.unit (sym c.if-not-has_label.ensures) in
+    sym (unmarked (numbers_of s) c.args.placed c.args.unit none s.units.count)

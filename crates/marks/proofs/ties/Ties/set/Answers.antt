@@ -6,11 +6,13 @@ use Rattle.marks.proofs.ties.Ties.set.Goals as goal
 pub returns : goal.returns
 returns c =
     let t = c.args.self.now in
+    let n = t.units.count in
     let l : length c.args.self.now.before ≡ 20 = search rules in
-    let p = two t.units c.args.a c.args.b (sym c.if-not-is_pair.ensures) in
+    let h = sym c.if-not-has_pair.ensures in
+    let p = two n c.args.a c.args.b h in
     record {
-      answered = c.if-not-is_pair.ensures;
+      answered = rw h refl;
       size = refl;
-      ties = tied_put t.units t.before c.args.a c.args.b c.changed.result
-          c.args.stands t.most l p c.changed.ensures.units;
+      ties = tied_put n t.before c.args.a c.args.b c.changed.result
+          c.args.stands t.units.most l p c.changed.ensures.units;
     }

@@ -1,0 +1,58 @@
+// How many units a sheet has, and their labels.
+ghost use Rattle.std.specs.Prelude.{◌≡◌, ◌≤◌, true, false, MatchOption};
+ghost use Rattle.rules.specs.Units.{label};
+ghost use Rattle.marks.specs.Cells.{is_size, pair};
+
+// A number of units that a sheet may have: 2 to 20.
+#[derive(Clone, Copy, PartialEq, Eq, Debug)]
+pub struct Units {
+    count: usize,
+    ghost least: { 2 ≤ count },
+    ghost most: { count ≤ 20 },
+}
+
+// Whether a is one of the labels 1 to n.
+pub(crate) fn is_label(n: usize, a: usize) -> bool
+    ensures { result ≡ label n a }
+{
+    1 <= a && a <= n
+}
+
+impl Units {
+    // The most units of a sheet.
+    pub const MOST: Units = Units { count: 20 };
+
+    // So many units; none unless they are 2 to 20.
+    pub fn new(units: u64) -> Option<Units>
+        ensures { MatchOption result (is_size units ≡ false) (λ u. (is_size units ≡ true) × (u.count ≡ units)) }
+    {
+        if 2 <= units && units <= 20 {
+            Some(Units {
+                count: units as usize,
+            })
+        } else {
+            None
+        }
+    }
+
+    // How many they are.
+    pub fn count(self) -> usize
+        ensures { result ≡ self.count }
+    {
+        self.count
+    }
+
+    // Whether a is the label of one of them.
+    pub fn has_label(self, a: usize) -> bool
+        ensures { result ≡ label self.count a }
+    {
+        is_label(self.count, a)
+    }
+
+    // Whether a and b are the labels of two of them.
+    pub fn has_pair(self, a: usize, b: usize) -> bool
+        ensures { result ≡ pair self.count a b }
+    {
+        self.has_label(a) && self.has_label(b) && a != b
+    }
+}
