@@ -6,9 +6,9 @@ ghost use Rattle.marks.specs.Cells.{is_size, pair};
 // A number of units that a sheet may have: 2 to 20.
 #[derive(Clone, Copy, PartialEq, Eq, Debug)]
 pub struct Units {
-    count: usize,
-    ghost least: { 2 ≤ count },
-    ghost most: { count ≤ 20 },
+    pub count: usize,
+    pub ghost least: { 2 ≤ count },
+    pub ghost most: { count ≤ 20 },
 }
 
 // Whether a is one of the labels 1 to n.
@@ -19,7 +19,9 @@ pub(crate) fn is_label(n: usize, a: usize) -> bool
 }
 
 impl Units {
-    // The most units of a sheet.
+    // The fewest units of a sheet, and the most.
+    pub const LEAST: Units = Units { count: 2 };
+
     pub const MOST: Units = Units { count: 20 };
 
     // So many units; none unless they are 2 to 20.

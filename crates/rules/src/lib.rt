@@ -14,99 +14,71 @@ pub enum Mark {
 }
 
 // What holds of every sheet after any list of calls.
-pub fn promise_stands() -> u8
+pub fn promise_stands()
     ensures { Promise }
-{
-    0
-}
+{}
 
 // The eight worked examples.
-pub fn examples_hold() -> u8
+pub fn examples_hold()
     ensures { WorkedExamples }
-{
-    0
-}
+{}
 
 // The recurrence of the search over sets.
-pub fn recurrence_stands() -> u8
+pub fn recurrence_stands()
     ensures { Recurrence }
-{
-    0
-}
+{}
 
 // What the best total and the listed ways of a set mean.
-pub fn cells_mean() -> u8
+pub fn cells_mean()
     ensures { CellsMean }
-{
-    0
-}
+{}
 
 // The counts of the search fit 64 bits.
-pub fn counts_fit() -> u8
+pub fn counts_fit()
     ensures { FewWays }
-{
-    0
-}
+{}
 
 // When some order keeps the ties.
-pub fn circle_test_means() -> u8
+pub fn circle_test_means()
     ensures { NoCircle }
-{
-    0
-}
+{}
 
 // When Open is accepted.
-pub fn open_test_means() -> u8
+pub fn open_test_means()
     ensures { Opens }
-{
-    0
-}
+{}
 
 // What the tests of a row mean.
-pub fn row_tests_mean() -> u8
+pub fn row_tests_mean()
     ensures { RowTestsMean }
-{
-    0
-}
+{}
 
 // Spread, gradient and target keep the laws.
-pub fn yardsticks_lawful() -> u8
+pub fn yardsticks_lawful()
     ensures { YardsticksLawful }
-{
-    0
-}
+{}
 
 // Interchange and insertion keep the laws.
-pub fn moves_lawful() -> u8
+pub fn moves_lawful()
     ensures { MovesLawful }
-{
-    0
-}
+{}
 
 // What improving leaves, and what settled means.
-pub fn improving_stands() -> u8
+pub fn improving_stands()
     ensures { Improving }
-{
-    0
-}
+{}
 
 // The least-squares line, and its loss.
-pub fn line_and_loss() -> u8
+pub fn line_and_loss()
     ensures { Line × Loss }
-{
-    0
-}
+{}
 
 // The anti-Robinson pattern and the gradient.
-pub fn pattern_stands() -> u8
+pub fn pattern_stands()
     ensures { Pattern × TiedPattern }
-{
-    0
-}
+{}
 
 // What Check counts.
-pub fn check_counts() -> u8
+pub fn check_counts()
     ensures { Comparisons × Unbroken }
-{
-    0
-}
+{}

@@ -46,12 +46,12 @@ module _ {X : Type 0} (s : Contents) (row : List ℕ) (x : X) where
     ties_kept h = sym (ties_next ∙ ap (λ b. cond (not b) (refused against) (accepted x)) h)
 
 -- the test of the ties of a sheet, as the code makes it
-pub keeps_same : (s : Sheet) (row : List ℕ) → keeps (tied_of s.ties) (first_of s.ties row) ≡ keeps (contents s).tied (take s.units row)
+pub keeps_same : (s : Sheet) (row : List ℕ) → keeps (tied_of s.ties) (first_of s.ties row) ≡ keeps (contents s).tied (take s.units.count row)
 keeps_same s row = ap (λ (n : ℕ). keeps (tied_of s.ties) (take n row)) s.same
 
 -- the total on the marks as numbers
 pub total_same : (y : Merit) (s : Sheet) (m : Marks) → MarksOf s m → (row : List ℕ)
-    → total_of y m (order_of m row) ≡ total y (numbers (contents s)) s.units 0 (take s.units row)
+    → total_of y m (order_of m row) ≡ total y (numbers (contents s)) s.units.count 0 (take s.units.count row)
 total_same y s m of row = λ i. total y (same_numbers s m of i) (of.size i) 0 (take (of.size i) row)
 
 -- what is written at the start of a list is read there again
@@ -133,20 +133,20 @@ module _ (s : Sheet) (m : Marks) (of : MarksOf s m) (row : List ℕ) (passed : d
   numbers_same = same_numbers s m of
 
   -- the tests that were passed
-  room : ltb (length row) s.units ≡ false
+  room : ltb (length row) s.units.count ≡ false
   room = (none_holds (row_tests (contents s) row) (tt {0}) (ap is_accepted passed)).0
 
-  ordered : is_order s.units (take s.units row) ≡ true
-  ordered = not-false (is_order s.units (take s.units row)) (none_holds (row_tests (contents s) row) (tt {0}) (ap is_accepted passed)).1.0
+  ordered : is_order s.units.count (take s.units.count row) ≡ true
+  ordered = not-false (is_order s.units.count (take s.units.count row)) (none_holds (row_tests (contents s) row) (tt {0}) (ap is_accepted passed)).1.0
 
   -- the row is an order for the marks too
   pub never_unordered : is_order (units_of m) (take (units_of m) row) ≡ false → ⊥
-  never_unordered e = both_ways (is_order s.units (take s.units row)) (sym (λ i. is_order (of.size i) (take (of.size i) row)) ∙ e) ordered
+  never_unordered e = both_ways (is_order s.units.count (take s.units.count row)) (sym (λ i. is_order (of.size i) (take (of.size i) row)) ∙ e) ordered
 
-  pub scaled_here : (before end : List ℤ) (l : ℤ) → ltb (length before) s.units ≡ false → Scaled m row before end l
-      → Scales (contents s) row before (accepted (record { displaced = take s.units end; loss = l })) end
+  pub scaled_here : (before end : List ℤ) (l : ℤ) → ltb (length before) s.units.count ≡ false → Scaled m row before end l
+      → Scales (contents s) row before (accepted (record { displaced = take s.units.count end; loss = l })) end
   scaled_here before end l enough h = scale_done (contents s) row before l end (list_next (contents s) row before enough ∙ passed)
-      (order_whole s.units (take s.units row) ordered)
+      (order_whole s.units.count (take s.units.count row) ordered)
       (h.losses ∙ (λ i. loss (numbers_same i) (of.size i) (take (of.size i) row)))
       (h.list ∙ (λ i. displacements (numbers_same i) (of.size i) 0 (take (of.size i) row) ++ drop (of.size i) before))
 
@@ -156,20 +156,20 @@ module _ (s : Sheet) (m : Marks) (of : MarksOf s m) (row : List ℕ) (passed : d
       (h.all ∙ (λ i. of.size i * (of.size i - 1) * (of.size i - 2) / 3))
 
   -- the fault of improving, where the first tests are passed
-  fault_here : fault m s.ties row ≡ cond (keeps (tied_of s.ties) (take s.units row)) None (Some Against)
+  fault_here : fault m s.ties row ≡ cond (keeps (tied_of s.ties) (take s.units.count row)) None (Some Against)
   fault_here =
       (λ i. first_fault (eqb (s.same i) (of.size i)) (ltb (length row) (of.size i)) (is_order (of.size i) (take (of.size i) row)) (keeps (tied_of s.ties) (take (of.size i) row)))
-      ∙ (λ i. first_fault (eq-eqb s.units s.units refl i) (room i) (ordered i) (keeps (tied_of s.ties) (take s.units row)))
+      ∙ (λ i. first_fault (eq-eqb s.units.count s.units.count refl i) (room i) (ordered i) (keeps (tied_of s.ties) (take s.units.count row)))
 
-  against_only : (f : MoveFault) → fault m s.ties row ≡ Some f → (keeps (tied_of s.ties) (take s.units row) ≡ false) × (f ≡ Against)
-  against_only f e = go (keeps (tied_of s.ties) (take s.units row)) (sym fault_here ∙ e)
+  against_only : (f : MoveFault) → fault m s.ties row ≡ Some f → (keeps (tied_of s.ties) (take s.units.count row) ≡ false) × (f ≡ Against)
+  against_only f e = go (keeps (tied_of s.ties) (take s.units.count row)) (sym fault_here ∙ e)
     where
       go : (b : Bool) → cond b None (Some Against) ≡ Some f → (b ≡ false) × (f ≡ Against)
       go true h = absurd (let z : ◌≡◌ {A = ℕ} 0 1 = cc in omega arith)
       go false h = (refl, cc)
 
-  keeps_all : fault m s.ties row ≡ None → keeps (tied_of s.ties) (take s.units row) ≡ true
-  keeps_all e = go (keeps (tied_of s.ties) (take s.units row)) (sym fault_here ∙ e)
+  keeps_all : fault m s.ties row ≡ None → keeps (tied_of s.ties) (take s.units.count row) ≡ true
+  keeps_all e = go (keeps (tied_of s.ties) (take s.units.count row)) (sym fault_here ∙ e)
     where
       go : (b : Bool) → cond b None (Some Against) ≡ None → b ≡ true
       go true h = refl
@@ -187,25 +187,25 @@ module _ (s : Sheet) (m : Marks) (of : MarksOf s m) (row : List ℕ) (passed : d
         (improve_refused (contents s) k y limit row (answer_refusal (improving f)) o)
 
     pub improved_here : {T : Type 0} (numbers_in : T → List ℤ) (a : Improvement T) → Answered k y m s.ties numbers_in limit row end a
-        → Improves (contents s) k y limit row (accepted (record { made = a.made; total = numbers_in a.total; settled = a.settled; order = take s.units end })) end
+        → Improves (contents s) k y limit row (accepted (record { made = a.made; total = numbers_in a.total; settled = a.settled; order = take s.units.count end })) end
     improved_here numbers_in a h =
         let reached = h.reached in
-        let moved_row : Improved = improved k y (numbers (contents s)) (tied_of s.ties) s.units limit (take s.units row) in
-        let order : end ≡ (improve_answer (contents s) k y limit row).order ++ drop s.units row =
+        let moved_row : Improved = improved k y (numbers (contents s)) (tied_of s.ties) s.units.count limit (take s.units.count row) in
+        let order : end ≡ (improve_answer (contents s) k y limit row).order ++ drop s.units.count row =
         reached.order ∙ (λ i. (done i).row ++ drop (of.size i) row) in
-        let whole : length (improve_answer (contents s) k y limit row).order ≡ s.units =
+        let whole : length (improve_answer (contents s) k y limit row).order ≡ s.units.count =
         ap (λ (q : Improved). length q.row) (sym (λ i. done i)) ∙ h.improves.order.as_many ∙ of.size in
         let made : a.made ≡ moved_row.made = reached.made ∙ (λ i. (done i).made) in
-        let total_is : numbers_in a.total ≡ total y (numbers (contents s)) s.units 0 moved_row.row =
+        let total_is : numbers_in a.total ≡ total y (numbers (contents s)) s.units.count 0 moved_row.row =
         reached.total ∙ (λ i. total y (numbers_same i) (of.size i) 0 (done i).row) in
-        let settled_is : a.settled ≡ settled k y (numbers (contents s)) (tied_of s.ties) s.units moved_row.row =
+        let settled_is : a.settled ≡ settled k y (numbers (contents s)) (tied_of s.ties) s.units.count moved_row.row =
         reached.settled ∙ (λ i. settled k y (numbers_same i) (tied_of s.ties) (of.size i) (done i).row) in
-        let front_is : take s.units end ≡ moved_row.row =
-        ap (take s.units) order ∙ front s.units (improve_answer (contents s) k y limit row).order (drop s.units row) whole in
-        improve_done (contents s) k y limit row (record { made = a.made; total = numbers_in a.total; settled = a.settled; order = take s.units end }) end
+        let front_is : take s.units.count end ≡ moved_row.row =
+        ap (take s.units.count) order ∙ front s.units.count (improve_answer (contents s) k y limit row).order (drop s.units.count row) whole in
+        improve_done (contents s) k y limit row (record { made = a.made; total = numbers_in a.total; settled = a.settled; order = take s.units.count end }) end
         (ties_kept (contents s) row (improve_answer (contents s) k y limit row) passed (keeps_all h.no_fault))
         (λ i. record { made = made i; total = total_is i; settled = settled_is i; order = front_is i }) order
       where
         done : improved k y (numbers_of m) (tied_of s.ties) (units_of m) limit (take (units_of m) row)
-            ≡ improved k y (numbers (contents s)) (tied_of s.ties) s.units limit (take s.units row)
+            ≡ improved k y (numbers (contents s)) (tied_of s.ties) s.units.count limit (take s.units.count row)
         done = λ i. improved k y (numbers_same i) (tied_of s.ties) (of.size i) limit (take (of.size i) row)

@@ -1,5 +1,5 @@
 -- What the calls that change a sheet leave of its contents.
-use Rattle.std.proofs.Common.{◌≡◌, ℕ, ◌<◌, ◌≤◌, Bool, true, false, cond, not, ◌&&◌, ltb, [], ◌∷◌, sym, refl, ap, ◌∙◌, subst, arith}
+use Rattle.std.proofs.Common.{◌≡◌, ℕ, ◌<◌, ◌≤◌, Bool, true, false, cond, not, ◌&&◌, ltb, [], ◌∷◌, sym, refl, ap, ◌∙◌, subst, arith, Result, is_ok}
 use Rattle.std.proofs.lemmas.Bool.{both_ways, lt-ltb, le-ltb}
 use Rattle.std.proofs.lemmas.Bool.Decides.{nat_tests}
 use Rattle.rules.specs.declared.Mark.{Mark}
@@ -10,9 +10,10 @@ use Rattle.rules.specs.Calls.{Refusal, accepted, refused, mark, is_accepted, pai
 use Rattle.rules.specs.Calls.{size as size-refusal}
 use Rattle.rules.specs.Runs.{to_mark, to_tie, changed, if_accepted}
 use Rattle.rules.proofs.Deciding.{decide_past, decide_stop, none_holds}
+use Rattle.marks.specs.declared.faults.MarkFault.{MarkFault}
 use Rattle.marks.specs.declared.ties.Ties.{Ties}
 use Rattle.marks.specs.Cells.{is_size, pair}
-use Rattle.marks.specs.Tied.{tied_of, TieSet, Untied}
+use Rattle.marks.specs.Tied.{tied_units, tied_of, TieSet, Untied}
 use Rattle.cells.specs.declared.triangle.Triangle.{Triangle}
 use Rattle.cells.specs.Read.{mark_at, number_at, AllGaps}
 use Rattle.cells.specs.Gaps.{sheet_of}
@@ -51,28 +52,28 @@ same_tie_record : (s : Sheet) (a b : ℕ) (stands : Bool) (r : Refusal) → OneT
 same_tie_record s a b stands r = record { units = refl; cells = refl; ties = λ x y. refl; refused = λ _. refl }
 
 module _ (s : Sheet) (a b : ℕ) (r : Refusal) where
-  pub refused_write : (d : ℕ) → refused r ≡ write_outcome s.units a b d → Writes s a b d (refused r) s
+  pub refused_write : (d : ℕ) → refused r ≡ write_outcome s.units.count a b d → Writes s a b d (refused r) s
   refused_write d e = record {
     answer = e;
     sheet = ap (λ o. changed (contents s) (if_accepted o (to_mark a b (Number d)))) e;
     record_after = same_mark s a b (Number d) r;
   }
 
-  pub refused_blank : refused r ≡ pair_outcome s.units a b → Blanks s a b (refused r) s
+  pub refused_blank : refused r ≡ pair_outcome s.units.count a b → Blanks s a b (refused r) s
   refused_blank e = record {
     answer = e;
     sheet = ap (λ o. changed (contents s) (if_accepted o (to_mark a b Gap))) e;
     record_after = same_mark s a b Gap r;
   }
 
-  pub refused_tie : refused r ≡ pair_outcome s.units a b → Binds s a b (refused r) s
+  pub refused_tie : refused r ≡ pair_outcome s.units.count a b → Binds s a b (refused r) s
   refused_tie e = record {
     answer = e;
     sheet = ap (λ o. changed (contents s) (if_accepted o (to_tie a b true))) e;
     record_after = same_tie_record s a b true r;
   }
 
-  pub refused_untie : refused r ≡ pair_outcome s.units a b → Unbinds s a b (refused r) s
+  pub refused_untie : refused r ≡ pair_outcome s.units.count a b → Unbinds s a b (refused r) s
   refused_untie e = record {
     answer = e;
     sheet = ap (λ o. changed (contents s) (if_accepted o (to_tie a b false))) e;
@@ -117,12 +118,12 @@ pub never_refused : {X : Type 0} → true ≡ false → X
 never_refused e = absurd (both_ways true e refl)
 
 -- a sheet after a mark was put into its cells
-module _ (s t : Sheet) (a b : ℕ) (m : Mark) (units : t.units ≡ s.units) (ties : t.ties ≡ s.ties) (two : pair s.units a b ≡ true)
+module _ (s t : Sheet) (a b : ℕ) (m : Mark) (units : t.units.count ≡ s.units.count) (ties : t.ties ≡ s.ties) (two : pair s.units.count a b ≡ true)
     (put : (x y : ℕ) → mark_at t.cells x y ≡ cond (pair 20 a b && same_pair a b x y) m (mark_at s.cells x y)) where
   pub marked_record : OneMark s a b m (accepted tt) t
   marked_record = record {
     units = units;
-    cells = put_cells s.units a b m s.cells t.cells s.most two put;
+    cells = put_cells s.units.count a b m s.cells t.cells s.units.most two put;
     ties = ties;
     refused = never_refused;
   }
@@ -130,16 +131,16 @@ module _ (s t : Sheet) (a b : ℕ) (m : Mark) (units : t.units ≡ s.units) (tie
   pub marked_contents : contents t ≡ with_mark (contents s) a b m
   marked_contents =
       (λ i. sheet_of (units i) t.cells (tied_of (ties i)))
-      ∙ put_sheet s.units a b m s.cells t.cells s.most two put (tied_of s.ties)
+      ∙ put_sheet s.units.count a b m s.cells t.cells s.units.most two put (tied_of s.ties)
 
-  pub wrote : (d : ℕ) → m ≡ Number d → accepted tt ≡ write_outcome s.units a b d → Writes s a b d (accepted tt) t
+  pub wrote : (d : ℕ) → m ≡ Number d → accepted tt ≡ write_outcome s.units.count a b d → Writes s a b d (accepted tt) t
   wrote d e o = record {
     answer = o;
     sheet = marked_contents ∙ ap (with_mark (contents s) a b) e ∙ ap (λ q. changed (contents s) (if_accepted q (to_mark a b (Number d)))) o;
     record_after = subst (λ k. OneMark s a b k (accepted tt) t) e marked_record;
   }
 
-  pub blanked : m ≡ Gap → accepted tt ≡ pair_outcome s.units a b → Blanks s a b (accepted tt) t
+  pub blanked : m ≡ Gap → accepted tt ≡ pair_outcome s.units.count a b → Blanks s a b (accepted tt) t
   blanked e o = record {
     answer = o;
     sheet = marked_contents ∙ ap (with_mark (contents s) a b) e ∙ ap (λ q. changed (contents s) (if_accepted q (to_mark a b Gap))) o;
@@ -147,10 +148,12 @@ module _ (s t : Sheet) (a b : ℕ) (m : Mark) (units : t.units ≡ s.units) (tie
   }
 
 -- a sheet after a tie was set
-module _ (s t : Sheet) (a b : ℕ) (stands r : Bool) (units : t.units ≡ s.units) (cells : t.cells ≡ s.cells) (two : pair s.units a b ≡ true)
+module _ (s t : Sheet) (a b : ℕ) (stands : Bool) (r : Result (Unit {0}) MarkFault) (units : t.units.count ≡ s.units.count) (cells : t.cells ≡ s.cells) (two : pair s.units.count a b ≡ true)
     (set : TieSet s.ties a b stands r t.ties) where
-  done : r ≡ true
-  done = set.answered ∙ ap (λ (n : ℕ). pair n a b) s.same ∙ two
+  done : is_ok r ≡ true
+  done =
+      let labels : pair (tied_units s.ties) a b ≡ true = ap (λ (n : ℕ). pair n a b) s.same ∙ two in
+      rw (set.answered, labels) refl
 
   set_ties : (x y : ℕ) → tied_of t.ties x y ≡ cond (same_tie a b x y) stands (tied_of s.ties x y)
   set_ties x y = set.ties x y ∙ ap (λ q. cond (q && same_tie a b x y) stands (tied_of s.ties x y)) done
@@ -161,20 +164,20 @@ module _ (s t : Sheet) (a b : ℕ) (stands r : Bool) (units : t.units ≡ s.unit
   pub tied_contents : contents t ≡ with_tie (contents s) a b stands
   tied_contents = λ i. sheet_of (units i) (cells i) (λ x y. set_ties x y i)
 
-pub bound : (s t : Sheet) (a b : ℕ) (r : Bool) → t.units ≡ s.units → t.cells ≡ s.cells → accepted tt ≡ pair_outcome s.units a b
+pub bound : (s t : Sheet) (a b : ℕ) (r : Result (Unit {0}) MarkFault) → t.units.count ≡ s.units.count → t.cells ≡ s.cells → accepted tt ≡ pair_outcome s.units.count a b
     → TieSet s.ties a b true r t.ties → Binds s a b (accepted tt) t
 bound s t a b r units cells o set = record {
   answer = o;
-  sheet = tied_contents s t a b true r units cells (passed s.units a b o) set ∙ ap (λ q. changed (contents s) (if_accepted q (to_tie a b true))) o;
-  record_after = tied_record s t a b true r units cells (passed s.units a b o) set;
+  sheet = tied_contents s t a b true r units cells (passed s.units.count a b o) set ∙ ap (λ q. changed (contents s) (if_accepted q (to_tie a b true))) o;
+  record_after = tied_record s t a b true r units cells (passed s.units.count a b o) set;
 }
 
-pub unbound : (s t : Sheet) (a b : ℕ) (r : Bool) → t.units ≡ s.units → t.cells ≡ s.cells → accepted tt ≡ pair_outcome s.units a b
+pub unbound : (s t : Sheet) (a b : ℕ) (r : Result (Unit {0}) MarkFault) → t.units.count ≡ s.units.count → t.cells ≡ s.cells → accepted tt ≡ pair_outcome s.units.count a b
     → TieSet s.ties a b false r t.ties → Unbinds s a b (accepted tt) t
 unbound s t a b r units cells o set = record {
   answer = o;
-  sheet = tied_contents s t a b false r units cells (passed s.units a b o) set ∙ ap (λ q. changed (contents s) (if_accepted q (to_tie a b false))) o;
-  record_after = tied_record s t a b false r units cells (passed s.units a b o) set;
+  sheet = tied_contents s t a b false r units cells (passed s.units.count a b o) set ∙ ap (λ q. changed (contents s) (if_accepted q (to_tie a b false))) o;
+  record_after = tied_record s t a b false r units cells (passed s.units.count a b o) set;
 }
 
 -- a new sheet

@@ -18,11 +18,11 @@ as_is : (m : Mark) → value m ≤ 10000 → low_value m ≡ value m
 as_is Gap h = refl
 as_is (Number d) h = ap (λ b. cond b d 0) (le-leb d 10000 h)
 
-pub marks_of : (s : Sheet) (m : Marks) → AsNumbers s.units s.cells m → MarksOf s m
+pub marks_of : (s : Sheet) (m : Marks) → AsNumbers s.units.count s.cells m → MarksOf s m
 marks_of s m a = record {
   size = a.size;
   marks = λ x y. a.marks x y ∙ as_is ((contents s).mark x y)
-      (elim (pair s.units x y) as (λ b. value (cond b (mark_at s.cells x y) Gap) ≤ 10000) [ true ↦ s.low x y | false ↦ omega arith ]);
+      (elim (pair s.units.count x y) as (λ b. value (cond b (mark_at s.cells x y) Gap) ≤ 10000) [ true ↦ s.low x y | false ↦ omega arith ]);
 }
 
 -- the numbers, as functions

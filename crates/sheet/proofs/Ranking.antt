@@ -160,7 +160,7 @@ told count k e = (grind (arith, nat_tests), (grind (arith, nat_tests), grind (ar
 -- the search on the marks and ties of a sheet
 module _ {T : Type 0} (numbers_in : T → List ℤ) (y : Merit) (s : Sheet) (k : ℕ) (b : Lent T) where
   abbrev n : ℕ
-  n = s.units
+  n = s.units.count
 
   -- too little room, said of the tables as numbers
   room_same : rank_short (contents s) (map numbers_in b.totals) b.counts b.row ≡ search.short n (length b.totals) (length b.counts) (length b.row)
@@ -171,7 +171,7 @@ module _ {T : Type 0} (numbers_in : T → List ℤ) (y : Merit) (s : Sheet) (k :
   lacking e = room_same ∙ past_limit (search.short n (length b.totals) (length b.counts) (length b.row)) (sym e)
     where
       past_limit : (t : Bool) → (ltb 20 n || t) ≡ true → t ≡ true
-      past_limit t h = let m : n ≤ 20 = s.most in grind (arith, nat_tests)
+      past_limit t h = let m : n ≤ 20 = s.units.most in grind (arith, nat_tests)
 
   pub enough : false ≡ (ltb 20 n || search.short n (length b.totals) (length b.counts) (length b.row))
       → search.short n (length b.totals) (length b.counts) (length b.row) ≡ false

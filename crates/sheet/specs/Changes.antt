@@ -23,7 +23,7 @@ open_reply t r = outcome_of sheet_refusal (λ _. contents t) r
 
 -- of the record only the cell of a and b changes, and it only by an accepted call, to the mark m
 pub record OneMark (s : Sheet) (a b : ℕ) (m : Mark) (o : Outcome (Unit {0})) (t : Sheet) : Type 0 where
-  pub units : t.units ≡ s.units
+  pub units : t.units.count ≡ s.units.count
   pub cells : (x y : ℕ)
       → mark_at t.cells x y ≡ cond (is_accepted o && same_pair a b x y) m (mark_at s.cells x y)
   pub ties : t.ties ≡ s.ties
@@ -31,7 +31,7 @@ pub record OneMark (s : Sheet) (a b : ℕ) (m : Mark) (o : Outcome (Unit {0})) (
 
 -- of the record only the tie of a before b changes, and it only by an accepted call
 pub record OneTie (s : Sheet) (a b : ℕ) (stands : Bool) (o : Outcome (Unit {0})) (t : Sheet) : Type 0 where
-  pub units : t.units ≡ s.units
+  pub units : t.units.count ≡ s.units.count
   pub cells : t.cells ≡ s.cells
   pub ties : (x y : ℕ)
       → tied_of t.ties x y ≡ cond (is_accepted o && same_tie a b x y) stands (tied_of s.ties x y)
@@ -39,24 +39,24 @@ pub record OneTie (s : Sheet) (a b : ℕ) (stands : Bool) (o : Outcome (Unit {0}
 
 -- Write from s to t
 pub record Writes (s : Sheet) (a b d : ℕ) (o : Outcome (Unit {0})) (t : Sheet) : Type 0 where
-  pub answer : o ≡ write_outcome s.units a b d
+  pub answer : o ≡ write_outcome s.units.count a b d
   pub sheet : contents t ≡ after (contents s) (write a b d)
   pub record_after : OneMark s a b (Number d) o t
 
 -- Blank
 pub record Blanks (s : Sheet) (a b : ℕ) (o : Outcome (Unit {0})) (t : Sheet) : Type 0 where
-  pub answer : o ≡ pair_outcome s.units a b
+  pub answer : o ≡ pair_outcome s.units.count a b
   pub sheet : contents t ≡ after (contents s) (blank a b)
   pub record_after : OneMark s a b Gap o t
 
 -- Tie
 pub record Binds (s : Sheet) (a b : ℕ) (o : Outcome (Unit {0})) (t : Sheet) : Type 0 where
-  pub answer : o ≡ pair_outcome s.units a b
+  pub answer : o ≡ pair_outcome s.units.count a b
   pub sheet : contents t ≡ after (contents s) (tie a b)
   pub record_after : OneTie s a b true o t
 
 -- Untie
 pub record Unbinds (s : Sheet) (a b : ℕ) (o : Outcome (Unit {0})) (t : Sheet) : Type 0 where
-  pub answer : o ≡ pair_outcome s.units a b
+  pub answer : o ≡ pair_outcome s.units.count a b
   pub sheet : contents t ≡ after (contents s) (untie a b)
   pub record_after : OneTie s a b false o t

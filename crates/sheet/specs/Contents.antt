@@ -6,4 +6,4 @@ use Rattle.sheet.specs.declared.sheet.Sheet.{Sheet}
 
 -- the units, the mark of each pair of their labels, and the ties
 abbrev pub contents : Sheet → Contents
-contents s = sheet_of s.units s.cells (tied_of s.ties)
+contents s = sheet_of s.units.count s.cells (tied_of s.ties)

@@ -11,7 +11,7 @@ use Rattle.sheet.specs.Faults.{answer_refusal}
 
 -- m has the units of s and the number of each pair, a gap as 0
 pub record MarksOf (s : Sheet) (m : Marks) : Type 0 where
-  pub size : units_of m ≡ s.units
+  pub size : units_of m ≡ s.units.count
   pub marks : (x y : ℕ) → numbers_of m x y ≡ numbers (contents s) x y
 
 -- the marks if none of the tests holds, else the refusal of the first that does

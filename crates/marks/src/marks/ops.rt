@@ -77,7 +77,7 @@ impl Marks {
     pub fn units(&self) -> usize
         ensures { result ≡ units_of self.now }
     {
-        self.size().count()
+        self.size().count
     }
 
     // The same, with its bounds.
@@ -121,7 +121,7 @@ impl Marks {
             return 0;
         }
         let start = (unit - 1) * 20;
-        let row = &self.cells[start..start + self.units.count()];
+        let row = &self.cells[start..start + self.units.count];
         let mut sum = 0;
         for (i, mark) in row.iter().enumerate() {
             sum += term(*mark, i + 1 == unit, has(placed, i + 1));

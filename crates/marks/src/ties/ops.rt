@@ -59,7 +59,7 @@ impl Ties {
     pub fn units(&self) -> usize
         ensures { result ≡ tied_units self.now }
     {
-        self.size().count()
+        self.size().count
     }
 
     // The same, with its bounds.

@@ -24,23 +24,22 @@ impl Sheet {
     fn measured(&self) -> Result<Marks, AnswerFault>
         ensures { Tested self.now (gap_tests (contents self.now)) result }
     {
-        if let Some((a, b)) = self.cells.first_gap(self.units) {
+        let units = self.units.count;
+        if let Some((a, b)) = self.cells.first_gap(units) {
             return Err(AnswerFault::Gap(a, b));
         }
-        match self.cells.numbers(self.units as u64) {
-            Some(marks) => Ok(marks),
-            None => unreachable(),
-        }
+        Ok(self.cells.numbers(units as u64).unwrap())
     }
 
     // The same, unless the row's first labels are no order.
     fn ordered(&self, row: &[u8]) -> Result<Marks, AnswerFault>
         ensures { Tested self.now (row_tests (contents self.now) row.now) result }
     {
-        if row.len() < self.units {
+        let units = self.units.count;
+        if row.len() < units {
             return Err(AnswerFault::Short);
         }
-        if !is_order(row, self.units) {
+        if !is_order(row, units) {
             return Err(AnswerFault::NoRow);
         }
         self.measured()
@@ -55,9 +54,9 @@ impl Sheet {
         counts: &mut [u64],
         row: &mut [u8],
     ) -> Result<(Y::Total, u64), AnswerFault>
-        ensures { Ranks (contents self.now) (merit_of Y.Yardstick) k (in_numbers Y.Yardstick.numbers (record { totals = totals.old; counts = counts.old; row = row.old })) (rank_reply Y.Yardstick.numbers self.now.units row.new result) (in_numbers Y.Yardstick.numbers (record { totals = totals.new; counts = counts.new; row = row.new })) }
+        ensures { Ranks (contents self.now) (merit_of Y.Yardstick) k (in_numbers Y.Yardstick.numbers (record { totals = totals.old; counts = counts.old; row = row.old })) (rank_reply Y.Yardstick.numbers self.now.units.count row.new result) (in_numbers Y.Yardstick.numbers (record { totals = totals.new; counts = counts.new; row = row.new })) }
     {
-        if lacks_room(self.units, totals.len(), counts.len(), row.len()) {
+        if lacks_room(self.units.count, totals.len(), counts.len(), row.len()) {
             return Err(AnswerFault::Short);
         }
         let marks = self.measured()?;
@@ -72,25 +71,19 @@ impl Sheet {
         if !keeps(&self.ties, row) {
             return Err(AnswerFault::Against);
         }
-        match total::<Y>(&marks, row) {
-            Some(total) => Ok(total),
-            None => unreachable(),
-        }
+        Ok(total::<Y>(&marks, row).unwrap())
     }
 
     // Writes the displacement of each unit of the order in a row, after the units before it, into a list, and answers the
     // loss in n-ths.
     pub fn scale(&self, row: &[u8], list: &mut [i64]) -> Result<i64, AnswerFault>
-        ensures { Scales (contents self.now) row.now list.old (scale_reply self.now.units list.new result) list.new }
+        ensures { Scales (contents self.now) row.now list.old (scale_reply self.now.units.count list.new result) list.new }
     {
-        if list.len() < self.units {
+        if list.len() < self.units.count {
             return Err(AnswerFault::Short);
         }
         let marks = self.ordered(row)?;
-        match coordinates(&marks, row, list) {
-            Some(loss) => Ok(loss),
-            None => unreachable(),
-        }
+        Ok(coordinates(&marks, row, list).unwrap())
     }
 
     // How many comparisons of the anti-Robinson pattern the order in a row keeps, and how many it breaks.
@@ -98,10 +91,7 @@ impl Sheet {
         ensures { Checks (contents self.now) row.now (check_reply result) }
     {
         let marks = self.ordered(row)?;
-        match comparisons(&marks, row) {
-            Some(counts) => Ok(counts),
-            None => unreachable(),
-        }
+        Ok(comparisons(&marks, row).unwrap())
     }
 
     // Makes the first move that gives a tie-keeping order of greater total, again and again, until there is none or the
@@ -111,7 +101,7 @@ impl Sheet {
         limit: u32,
         row: &mut [u8],
     ) -> Result<Improvement<Y::Total>, AnswerFault>
-        ensures { Improves (contents self.now) (moves_of M.MoveKind) (merit_of Y.Yardstick) limit row.old (improve_reply Y.Yardstick.numbers self.now.units row.new result) row.new }
+        ensures { Improves (contents self.now) (moves_of M.MoveKind) (merit_of Y.Yardstick) limit row.old (improve_reply Y.Yardstick.numbers self.now.units.count row.new result) row.new }
     {
         let marks = self.ordered(row)?;
         Ok(improve::<M, Y>(&marks, &self.ties, limit, row)?)

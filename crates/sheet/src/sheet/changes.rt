@@ -11,21 +11,26 @@ use super::Sheet;
 use crate::faults::{Label, SheetFault};
 use cells::triangle::Triangle;
 use marks::ties::Ties;
+use marks::units::Units;
 use rules::Mark;
 
 impl Sheet {
+    // A new sheet: all pairs are gaps, and there is no tie.
+    fn of(units: Units) -> Sheet
+        ensures { contents result ≡ new_contents units.count }
+    {
+        Sheet {
+            units,
+            cells: Triangle::new(),
+            ties: Ties::none(units),
+        }
+    }
+
     // A new sheet of two units, to be opened.
     pub fn new() -> Sheet
         ensures { contents result ≡ new_contents 2 }
     {
-        let Some(ties) = Ties::new(2) else {
-            unreachable()
-        };
-        Sheet {
-            units: 2,
-            cells: Triangle::new(),
-            ties,
-        }
+        Sheet::of(Units::LEAST)
     }
 
     // Makes this a new sheet of n units: all pairs are gaps, and there is no tie. Refused, and nothing is changed, unless
@@ -34,22 +39,16 @@ impl Sheet {
         ensures opens { Opens self.old n (open_reply self.new result) self.new }
         ensures promise { is_ok result ≡ true → Promise n self.new }
     {
-        let Some(ties) = Ties::new(n) else {
-            return Err(SheetFault::Size);
-        };
-        *self = Sheet {
-            units: n as usize,
-            cells: Triangle::new(),
-            ties,
-        };
+        let units = Units::new(n).ok_or(SheetFault::Size)?;
+        *self = Sheet::of(units);
         Ok(())
     }
 
     // Whether a and b are the labels of two units.
     fn pair(&self, a: u64, b: u64) -> Result<(), SheetFault>
-        ensures { change_outcome result ≡ pair_outcome self.now.units a b }
+        ensures { change_outcome result ≡ pair_outcome self.now.units.count a b }
     {
-        let n = self.units as u64;
+        let n = self.units.count as u64;
         if a < 1 || a > n {
             return Err(SheetFault::Stranger(Label::First));
         }

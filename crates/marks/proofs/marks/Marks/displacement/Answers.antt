@@ -20,7 +20,7 @@ grown c =
     let i = c.loop-i.i in
     let l : c.loop-i.i < c.args.self.now.units.count = search rules in
     let t : c.term-sum.result ≡ added (p (i + 1) j) (eqb (i + 1) j) (has A (i + 1)) =
-    (rw c.count.ensures at c.term-sum.ensures) ∙ row_added s.units.count s.cells s.symmetric A j (sym c.if-not-has_label.ensures) i l c.has.result c.has.ensures in
+    c.term-sum.ensures ∙ row_added s.units.count s.cells s.symmetric A j (sym c.if-not-has_label.ensures) i l c.has.result c.has.ensures in
     let so_far = sym c.loop-i.sum-is ∙ c.loop-i.invariant in
     let e = next p A j i ∙ (λ k. sym so_far k +ℤ sym t k) in
     let f = not_far p A j s.low (i + 1) in

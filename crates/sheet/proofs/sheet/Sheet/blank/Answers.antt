@@ -13,11 +13,9 @@ returns-in_err-pair c =
 pub invariant_of-self : goal.invariant_of-self
 invariant_of-self c =
     let s = c.args.self.now in
-    let two = passed s.units c.args.a c.args.b c.in_ok-pair.ensures in
+    let two = passed s.units.count c.args.a c.args.b c.in_ok-pair.ensures in
     record {
-      least = s.least;
-      most = s.most;
-      low = put_low s.units c.args.a c.args.b Gap s.cells c.put.new.self s.most two c.put.ensures (omega arith) s.low;
+      low = put_low s.units.count c.args.a c.args.b Gap s.cells c.put.new.self s.units.most two c.put.ensures (omega arith) s.low;
       same = s.same;
     }
 
@@ -25,4 +23,4 @@ pub returns : goal.returns
 returns c =
     let s = c.args.self.now in
     let o = c.in_ok-pair.ensures in
-    blanked s _ c.args.a c.args.b Gap refl refl (passed s.units c.args.a c.args.b o) c.put.ensures refl o
+    blanked s _ c.args.a c.args.b Gap refl refl (passed s.units.count c.args.a c.args.b o) c.put.ensures refl o

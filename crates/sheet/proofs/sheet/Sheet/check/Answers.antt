@@ -1,7 +1,7 @@
 use Rattle.std.proofs.lemmas.Result.{err_from_is_err_and}
 use Rattle.sheet.specs.Faults.{answer_refusal}
 use Rattle.sheet.specs.Contents.{contents}
-use Rattle.sheet.proofs.Answering.{check_refused, compared_here, never_unordered}
+use Rattle.sheet.proofs.Answering.{check_refused, compared_here}
 use Rattle.sheet.proofs.sheet.Sheet.check.Goals as goal
 
 pub returns-in_err-marks : goal.returns-in_err-marks
@@ -12,9 +12,4 @@ returns-in_err-marks c =
 pub returns : goal.returns
 returns c =
     let m = c.in_ok-marks.ensures in
-    compared_here c.args.self.now c.in_ok-marks.marks m.1 c.args.row.now m.0 c.in-Some.counts c.in-Some.ensures
-
-pub unreachable-requires : goal.unreachable-requires
-unreachable-requires c =
-    let m = c.in_ok-marks.ensures in
-    never_unordered c.args.self.now c.in_ok-marks.marks m.1 c.args.row.now m.0 c.in-None.ensures
+    compared_here c.args.self.now c.in_ok-marks.marks m.1 c.args.row.now m.0 c.unwrap.result (rw c.unwrap.ensures at c.comparisons.ensures)

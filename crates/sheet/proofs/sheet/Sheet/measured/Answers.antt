@@ -3,4 +3,6 @@ use Rattle.sheet.proofs.Measuring.{marks_of}
 use Rattle.sheet.proofs.sheet.Sheet.measured.Goals as goal
 
 pub returns : goal.returns
-returns c = (sym c.in_default.ensures, marks_of c.args.self.now c.in-Some-numbers.marks c.in-Some-numbers.ensures.1)
+returns c =
+    let there = rw c.unwrap.ensures at c.numbers.ensures in
+    (sym c.in_default.ensures, marks_of c.args.self.now c.unwrap.result there.1)

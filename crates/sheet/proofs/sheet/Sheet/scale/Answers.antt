@@ -14,14 +14,14 @@ returns-in_err-marks c =
     let list = c.args.list.now in
     let p = err_from_is_err_and c.from_residual.result c.from_residual.ensures.1 in
     rw (p.1, p.2) (scale_refused (contents s) row list (answer_refusal c.in_err-marks.field-0.0)
-    (list_next (contents s) row list (le-ltb (length list) s.units (omega arith)) ∙ c.in_err-marks.ensures))
+    (list_next (contents s) row list (le-ltb (length list) s.units.count (omega arith)) ∙ c.in_err-marks.ensures))
 
 pub returns : goal.returns
 returns c =
     let s = c.args.self.now in
     let list = c.args.list.now in
     let m = c.in_ok-marks.ensures in
-    let fits : SFits w64 c.in-Some.loss = search rules in
-    rw (to_z-of_z w64 c.in-Some.loss fits)
-    (scaled_here s c.in_ok-marks.marks m.1 c.args.row.now m.0 list c.coordinates.new.list c.in-Some.loss
-    (le-ltb (length list) s.units (omega arith)) c.in-Some.ensures)
+    let fits : SFits w64 c.unwrap.result = search rules in
+    rw (to_z-of_z w64 c.unwrap.result fits)
+    (scaled_here s c.in_ok-marks.marks m.1 c.args.row.now m.0 list c.coordinates.new.list c.unwrap.result
+    (le-ltb (length list) s.units.count (omega arith)) (rw c.unwrap.ensures at c.coordinates.ensures))

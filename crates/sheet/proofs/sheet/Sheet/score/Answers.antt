@@ -6,7 +6,7 @@ use Rattle.rules.specs.Ranking.{total}
 use Rattle.yardsticks.specs.Merits.{merit_of}
 use Rattle.sheet.specs.Faults.{answer_refusal}
 use Rattle.sheet.specs.Contents.{contents}
-use Rattle.sheet.proofs.Answering.{row_stop, ties_broken, ties_kept, keeps_same, total_same, never_unordered}
+use Rattle.sheet.proofs.Answering.{row_stop, ties_broken, ties_kept, keeps_same, total_same}
 use Rattle.sheet.proofs.sheet.Sheet.score.Goals as goal
 
 pub returns-in_err-marks : goal.returns-in_err-marks
@@ -26,12 +26,9 @@ returns g c =
     let row = c.args.row.now in
     let y = merit_of g.Y.Yardstick in
     let m = c.in_ok-marks.ensures in
+    let n = s.units.count in
+    let there = rw c.unwrap.ensures at c.total.ensures in
     record {
-      answer = ap accepted (c.in-Some.ensures.1 ∙ total_same y s c.in_ok-marks.marks m.1 row)
-          ∙ ties_kept (contents s) row (total y (numbers (contents s)) s.units 0 (take s.units row)) m.0 (sym (keeps_same s row) ∙ sym c.if-not-keeps.ensures.test);
+      answer = ap accepted (there.1 ∙ total_same y s c.in_ok-marks.marks m.1 row)
+          ∙ ties_kept (contents s) row (total y (numbers (contents s)) n 0 (take n row)) m.0 (sym (keeps_same s row) ∙ sym c.if-not-keeps.ensures.test);
     }
-
-pub unreachable-requires : goal.unreachable-requires
-unreachable-requires g c =
-    let m = c.in_ok-marks.ensures in
-    never_unordered c.args.self.now c.in_ok-marks.marks m.1 c.args.row.now m.0 c.in-None.ensures
