@@ -1,37 +1,31 @@
 // Three units with the marks 2, 7 and 4, and calls by spread.
-use marks::marks::Marks;
 use marks::ties::Ties;
 use moves::improve::{Improvement, MoveFault, improve};
-use moves::insertion::Insertion;
-use moves::interchange::Interchange;
+use moves::kind::MoveKind;
+use samples::sheets::{self, Sheet};
 use yardsticks::spread::Spread;
 
-#[derive(Clone, Copy)]
-pub struct Sheet {
-    pub marks: Marks,
-    pub ties: Ties,
-}
-
-// The marks 2 of 1 and 2, 7 of 1 and 3, 4 of 2 and 3, and ties for some units.
+// The three units, and no tie among some units.
 pub fn three(tied_units: u64) -> Option<Sheet> {
-    let mut marks = Marks::new(3)?;
+    let marks = sheets::three(2, 7, 4).ok()?;
     let ties = Ties::new(tied_units)?;
-    let first = marks.put(1, 2, 2);
-    let second = marks.put(1, 3, 7);
-    let third = marks.put(2, 3, 4);
-    if first && second && third {
-        Some(Sheet { marks, ties })
-    } else {
-        None
-    }
+    Some(Sheet { marks, ties })
 }
 
-impl Sheet {
-    pub fn interchange(&self, limit: u32, row: &mut [u8]) -> Result<Improvement<u64>, MoveFault> {
-        improve::<Interchange, Spread>(&self.marks, &self.ties, limit, row)
-    }
+// Improves a row by spread.
+pub fn by_spread<M: MoveKind>(
+    sheet: &Sheet,
+    limit: u32,
+    row: &mut [u8],
+) -> Result<Improvement<u64>, MoveFault> {
+    improve::<M, Spread>(&sheet.marks, &sheet.ties, limit, row)
+}
 
-    pub fn insertion(&self, limit: u32, row: &mut [u8]) -> Result<Improvement<u64>, MoveFault> {
-        improve::<Insertion, Spread>(&self.marks, &self.ties, limit, row)
-    }
+// The answer that some moves were made, the total reached, and whether the row is settled.
+pub fn found(made: u32, total: u64, settled: bool) -> Result<Improvement<u64>, MoveFault> {
+    Ok(Improvement {
+        made,
+        total,
+        settled,
+    })
 }

@@ -1,21 +1,33 @@
 // Gradient: for each unit before and each unit after the one that is placed, whether their mark is above its marks to
 // them, and by how much.
-ghost use Rattle.std.specs.Prelude.{◌≡◌, ◌≤◌, [], ◌∷◌, pos, ◌-ℤ◌, unsigned_abs};
+ghost use Rattle.std.specs.Prelude.{◌≡◌, ◌≤◌, [], ◌∷◌, pos, ◌-ℤ◌, unsigned_abs, Some};
 ghost use Rattle.rules.specs.Yardsticks.{gradient, sign_ℤ};
 ghost use Rattle.marks.specs.Numbers.{units_of, numbers_of};
 ghost use Rattle.yardsticks.specs.Gradients.{RowOf, signs_of, rises_of, at, later, beyond, past, behind};
+ghost use Rattle.yardsticks.specs.Printed.{written};
 ghost use Rattle.rules.proofs.Lawfulness.{yardsticks_lawful};
 ghost use Rattle.std.proofs.Common.{rules};
 
 use crate::yardstick::Yardstick;
 use marks::marks::Marks;
 use marks::sets::has;
+use std::fmt;
 
 // The numbers of a gradient total: signs, and differences of marks.
 #[derive(Clone, Copy, PartialEq, Eq, PartialOrd, Ord, Debug)]
 pub struct Grades {
     pub signs: i32,
     pub rises: i32,
+}
+
+// The signs, a comma and the rises.
+impl fmt::Display for Grades {
+    ghost output = { λ t. Some (written t) };
+
+    fn fmt<W: fmt::Write>(&self, f: &mut fmt::Formatter<W>) -> fmt::Result {
+        let Grades { signs, rises } = *self;
+        write!(f, "{signs},{rises}")
+    }
 }
 
 const NONE: Grades = Grades { signs: 0, rises: 0 };
