@@ -1,5 +1,5 @@
 -- How numbers are written, and how many bytes they take.
-use Rattle.std.proofs.Common.{◌≡◌, ℕ, ◌+◌, ◌*◌, ◌/◌, ◌%◌, ◌^◌, ◌<◌, ◌≤◌, [], ◌∷◌, length, ℤ, pos, negsuc, nat_abs, ◌≤ℤ◌, ◌<ℤ◌, decimal, sym, ap, ◌∙◌, mul-le-mul_left, mul-add, arith, length-append}
+use Rattle.std.proofs.Common.{◌≡◌, ℕ, ◌+◌, ◌/◌, ◌%◌, ◌^◌, ◌<◌, ◌≤◌, [], ◌∷◌, length, ℤ, pos, negsuc, nat_abs, ◌≤ℤ◌, ◌<ℤ◌, decimal, sym, ap, ◌∙◌, arith, length-append}
 use lib.Signed.{mag}
 use Rattle.std.specs.Fmt.{signed_decimal}
 use Rattle.std.proofs.lemmas.Fmt.{decimal_step, length-decimal-le, length_signed_le}
@@ -27,7 +27,3 @@ whole_short n small = length-decimal-le 20 n (omega arith) (omega arith) small
 
 pub signed_short : (z : ℤ) → mag z < 2 ^ 63 → length (signed_decimal z) ≤ 20
 signed_short z small = length_signed_le 19 z (omega arith) small
-
--- room for n texts of k bytes is room for one more than i of them
-pub room_more : (k i n : ℕ) → i < n → k * i + k ≤ k * n
-room_more k i n lt = omega (arith, mul-add k i 1, mul-le-mul_left {m = i + 1} {n = n} k (omega arith))

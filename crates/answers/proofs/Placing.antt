@@ -1,27 +1,12 @@
 -- One text after another in a lent buffer.
-use Rattle.std.proofs.Common.{◌≡◌, ℕ, ◌+◌, ◌-◌, ◌<◌, ◌≤◌, List, [], ◌∷◌, ◌++◌, length, get_or, take, drop, set, sym, refl, ap, ◌∙◌, append_assoc, add-zero, zero-add, add-one, arith, length-append, take-append-drop, length-take-le, drop-drop}
-use borrow.Rule.Slice.PartMut.{put_mid}
-use lib.Seq.{take-append-add, drop-append-add, take-append_seam, set_split}
+use Rattle.std.proofs.Common.{◌≡◌, ℕ, ◌+◌, ◌<◌, ◌≤◌, List, [], ◌++◌, length, get_or, take, drop, sym, ap, ◌∙◌, append_assoc, zero-add, arith, length-append, length-take-le, drop-drop}
+use lib.Seq.{take-append-add, drop-append-add, take-append_seam}
 use Rattle.std.specs.List.{flat_map}
 use Rattle.std.proofs.lemmas.List.{take_more, flat_map_more}
-use Rattle.answers.specs.Places.{Placed}
+use Rattle.answers.specs.Places.{Placed, Begun, Appended}
+use Rattle.answers.specs.declared.text.Line.{Line}
+use Rattle.std.specs.Borrow.{MutBor}
 use Rattle.answers.specs.Lines.{Starts}
-
--- a byte that is set, and a part that is copied
-pub placed_byte : (b : List ℕ) (at x : ℕ) → at < length b → Placed (x ∷ []) at b (set b at x) (at + 1)
-placed_byte b at x lt = record { ends = refl; bytes = rw add-one (set_split b at x lt) }
-
-pub placed_part : (b text part : List ℕ) (at : ℕ) → part ≡ text → Placed text at b (put_mid at (at + length text - at) b part) (at + length text)
-placed_part b text part at e =
-    let k : at + (at + length text - at) ≡ at + length text = omega arith in
-    record {
-      ends = refl;
-      bytes = ap (λ l. take at b ++ (l ++ drop (at + length text - at) (drop at b))) e ∙ ap (λ l. take at b ++ (text ++ l)) (drop-drop _ at b ∙ ap (λ n. drop n b) k);
-    }
-
--- no text
-pub placed_none : (b : List ℕ) (at : ℕ) → Placed [] at b b at
-placed_none b at = record { ends = omega arith; bytes = sym (take-append-drop at b) ∙ ap (λ n. take at b ++ drop n b) (sym (add-zero at)) }
 
 -- a text, and then another
 pub placed_more : {t u b m a : List ℕ} {at e f : ℕ} → at ≤ length b → Placed t at b m e → Placed u e m a f → Placed (t ++ u) at b a f
@@ -42,12 +27,20 @@ placed_more {t} {u} {b} {m} {a} {at} {e} {f} le p q =
       bytes = q.bytes ∙ (λ i. kept i ++ (u ++ rest i)) ∙ simp append_assoc;
     }
 
+-- the same of a line
+pub appended_more : {t u : List ℕ} {b m a : Line} → Appended t b m → Appended u m a → Appended (t ++ u) b a
+appended_more {b = b} p q = record {
+  same_reference = q.same_reference ∙ p.same_reference;
+  placed = placed_more (omega (arith, b.room, b.within)) p.placed q.placed;
+}
+
 -- texts in a row, with that of x after the first i
 pub joined_take : {X : Type 0} (f : X → List ℕ) (xs : List X) (i : ℕ) (x : X) → i < length xs → x ≡ get_or xs i x → flat_map f (take (i + 1) xs) ≡ flat_map f (take i xs) ++ f x
 joined_take f xs i x lt is = ap (flat_map f) (take_more xs i x lt) ∙ sym (flat_map_more f [] (take i xs) (get_or xs i x)) ∙ ap (λ y. flat_map f (take i xs) ++ f y) (sym is)
 
 -- a text at the start of the buffer
-pub starts : {text b a : List ℕ} {n : ℕ} → Placed text 0 b a n → n ≤ 512 → Starts text b a n
-starts {text} {b} {a} {n} p short =
-    let long : n ≡ length text = p.ends ∙ zero-add (length text) in
-    record { count = long; short = short; bytes = p.bytes ∙ ap (λ k. text ++ drop k b) (sym p.ends) }
+pub starts : {text : List ℕ} {buffer : MutBor (List ℕ)} {b a : Line} → Begun buffer b → Appended text b a → Starts text buffer.now a.buffer.now a.len
+starts {text} {buffer} {b} {a} first p =
+    let q : Placed text 0 buffer.now a.buffer.now a.len = rw (first.empty, first.bytes) at p.placed in
+    let long : a.len ≡ length text = q.ends ∙ zero-add (length text) in
+    record { count = long; short = omega (arith, a.within); bytes = q.bytes ∙ ap (λ k. text ++ drop k buffer.now) (sym q.ends) }

@@ -4,5 +4,5 @@
 pub mod line;
 mod list;
 mod number;
-mod place;
+mod text;
 pub mod total;

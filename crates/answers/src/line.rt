@@ -1,10 +1,9 @@
 ghost use Rattle.std.specs.Prelude.{◌+◌, ◌≤◌, ◌&&◌, length};
-ghost use Rattle.answers.specs.Places.{Placed};
+ghost use Rattle.answers.specs.Places.{Appended};
 ghost use Rattle.answers.specs.Lines.{total_numbers, ranking, scaling, ranked_text, scaled_text, refused_text, roomy, listable, Written, OneAnswer};
 
-use crate::list::{put_each, put_total};
 use crate::number::Number;
-use crate::place::{put_byte, put_text};
+use crate::text::Line;
 use crate::total::Total;
 
 // The bytes in which every line fits.
@@ -13,36 +12,39 @@ pub const LINE_ROOM: usize = 512;
 // The most labels, and the most displacements, of a line.
 pub const MOST_UNITS: usize = 11;
 
-// Writes an order, its total and its count at the start of the buffer, and answers the place after them.
-fn put_ranking(buffer: &mut [u8], order: &[u8], total: Total, count: u64) -> usize
-    requires few { length order.now ≤ 11 }
-    requires space { 121 ≤ length buffer.old }
-    ensures placed { Placed (ranking order.now (total_numbers total) count) 0 buffer.old buffer.new result }
-    ensures room { result ≤ 121 }
-{
-    let order_at = put_text(buffer, 0, b"order");
-    let total_word = put_each(buffer, order_at, order);
-    let total_at = put_text(buffer, total_word, b" total ");
-    let count_word = put_total(buffer, total_at, total);
-    let count_at = put_text(buffer, count_word, b" of ");
-    count.put(buffer, count_at)
-}
+impl Line<'_> {
+    // Writes an order, its total and its count after what the line has.
+    fn put_ranking(&mut self, order: &[u8], total: Total, count: u64)
+        requires few { length order.now ≤ MOST_UNITS }
+        requires space { self.old.len + 121 ≤ LINE_ROOM }
+        ensures placed { Appended (ranking order.now (total_numbers total) count) self.old self.new }
+        ensures room { self.new.len ≤ self.old.len + 121 }
+    {
+        self.put_text(b"order");
+        self.put_each(order);
+        self.put_text(b" total ");
+        self.put_total(total);
+        self.put_text(b" of ");
+        count.put(self);
+    }
 
-// Writes displacements and a loss at a place of the buffer, and answers the place after them.
-fn put_scaling(buffer: &mut [u8], at: usize, displaced: &[i64], loss: i64) -> usize
-    requires few { length displaced.now ≤ 11 }
-    requires space { at + 260 ≤ length buffer.old }
-    ensures placed { Placed (scaling displaced.now loss) at buffer.old buffer.new result }
-    ensures room { result ≤ at + 260 }
-{
-    let displaced_at = put_text(buffer, at, b" at");
-    let loss_word = put_each(buffer, displaced_at, displaced);
-    let loss_at = put_text(buffer, loss_word, b" loss ");
-    loss.put(buffer, loss_at)
+    // Writes displacements and a loss after what the line has.
+    fn put_scaling(&mut self, displaced: &[i64], loss: i64)
+        requires few { length displaced.now ≤ MOST_UNITS }
+        requires space { self.old.len + 260 ≤ LINE_ROOM }
+        ensures placed { Appended (scaling displaced.now loss) self.old self.new }
+        ensures room { self.new.len ≤ self.old.len + 260 }
+    {
+        self.put_text(b" at");
+        self.put_each(displaced);
+        self.put_text(b" loss ");
+        loss.put(self);
+    }
 }
 
 // Writes the line of a ranking at the start of the buffer, and answers how many bytes it took.
 // None, and the buffer unchanged, where the buffer has under 512 bytes or the order over 11 labels.
+#[tactic(auto, using(crate::proofs::Telling::one_answer))]
 pub fn write_ranked(buffer: &mut [u8], order: &[u8], total: Total, count: u64) -> Option<usize>
     ensures text { Written (roomy buffer.old && listable order.now) (ranked_text order.now (total_numbers total) count) buffer.old buffer.new result }
     ensures one { OneAnswer }
@@ -50,8 +52,10 @@ pub fn write_ranked(buffer: &mut [u8], order: &[u8], total: Total, count: u64) -
     if buffer.len() < LINE_ROOM || order.len() > MOST_UNITS {
         return None;
     }
-    let ranking_end = put_ranking(buffer, order, total, count);
-    Some(put_byte(buffer, ranking_end, b'\n'))
+    let mut ranked = Line::begin(buffer);
+    ranked.put_ranking(order, total, count);
+    ranked.put_byte(b'\n');
+    Some(ranked.len)
 }
 
 // Writes the line of a ranking that is scaled at the start of the buffer, and answers how many bytes it took.
@@ -69,22 +73,27 @@ pub fn write_scaled(
     if buffer.len() < LINE_ROOM || order.len() > MOST_UNITS || displaced.len() > MOST_UNITS {
         return None;
     }
-    let ranking_end = put_ranking(buffer, order, total, count);
-    let scaling_end = put_scaling(buffer, ranking_end, displaced, loss);
-    Some(put_byte(buffer, scaling_end, b'\n'))
+    let mut scaled = Line::begin(buffer);
+    scaled.put_ranking(order, total, count);
+    scaled.put_scaling(displaced, loss);
+    scaled.put_byte(b'\n');
+    Some(scaled.len)
 }
 
 // Writes the line of a refusal at the start of the buffer, and answers how many bytes it took.
 // None, and the buffer unchanged, where the buffer has under 512 bytes.
+// The refusal is any number, since a type with fewer values would ask more of callers.
 pub fn write_refused(buffer: &mut [u8], line: u16, refusal: u8) -> Option<usize>
     ensures { Written (roomy buffer.old) (refused_text line refusal) buffer.old buffer.new result }
 {
     if buffer.len() < LINE_ROOM {
         return None;
     }
-    let line_at = put_text(buffer, 0, b"line ");
-    let refused_word = u64::from(line).put(buffer, line_at);
-    let refusal_at = put_text(buffer, refused_word, b" refused ");
-    let refusal_end = refusal.put(buffer, refusal_at);
-    Some(put_byte(buffer, refusal_end, b'\n'))
+    let mut refused = Line::begin(buffer);
+    refused.put_text(b"line ");
+    u64::from(line).put(&mut refused);
+    refused.put_text(b" refused ");
+    refusal.put(&mut refused);
+    refused.put_byte(b'\n');
+    Some(refused.len)
 }

@@ -1,21 +1,9 @@
 ghost use Rattle.std.specs.Prelude.{ℕ, ◌+◌, ◌≤◌, List, length, decimal};
 ghost use Rattle.std.specs.Fmt.{signed_decimal};
-ghost use Rattle.answers.specs.Places.{Placed};
+ghost use Rattle.answers.specs.declared.line.TheConstants.{LINE_ROOM};
+ghost use Rattle.answers.specs.Places.{Appended};
 
-use crate::place::put_byte;
-
-// Writes the decimal digits of n at a place of the buffer, and answers the place after them.
-fn put_decimal(buffer: &mut [u8], at: usize, n: u64) -> usize
-    requires { at + length (decimal n) ≤ length buffer.old }
-    ensures { Placed (decimal n) at buffer.old buffer.new result }
-{
-    if n < 10 {
-        put_byte(buffer, at, b'0' + n as u8)
-    } else {
-        let end = put_decimal(buffer, at, n / 10);
-        put_byte(buffer, end, b'0' + (n % 10) as u8)
-    }
-}
+use crate::text::Line;
 
 // A number that a line writes, in at most so many bytes.
 pub(crate) trait Number: Copy {
@@ -23,11 +11,11 @@ pub(crate) trait Number: Copy {
 
     ghost most: { ℕ };
 
-    // Writes the number at a place of the buffer, and answers the place after it.
-    fn put(self, buffer: &mut [u8], at: usize) -> usize
-        requires { at + most ≤ length buffer.old }
-        ensures placed { Placed (text self) at buffer.old buffer.new result }
-        ensures room { result ≤ at + most };
+    // Writes the number after what the line has.
+    fn put(self, line: &mut Line)
+        requires { line.old.len + most ≤ LINE_ROOM }
+        ensures placed { Appended (text self) line.old line.new }
+        ensures room { line.new.len ≤ line.old.len + most };
 }
 
 impl Number for u8 {
@@ -35,8 +23,9 @@ impl Number for u8 {
 
     ghost most = { 3 };
 
-    fn put(self, buffer: &mut [u8], at: usize) -> usize {
-        put_decimal(buffer, at, u64::from(self))
+    #[tactic(auto, using(crate::proofs::Lengths::byte_short))]
+    fn put(self, line: &mut Line) {
+        line.put_decimal(u64::from(self));
     }
 }
 
@@ -45,8 +34,9 @@ impl Number for u64 {
 
     ghost most = { 20 };
 
-    fn put(self, buffer: &mut [u8], at: usize) -> usize {
-        put_decimal(buffer, at, self)
+    #[tactic(auto, using(crate::proofs::Lengths::whole_short))]
+    fn put(self, line: &mut Line) {
+        line.put_decimal(self);
     }
 }
 
@@ -55,12 +45,24 @@ impl Number for i64 {
 
     ghost most = { 20 };
 
-    fn put(self, buffer: &mut [u8], at: usize) -> usize {
+    fn put(self, line: &mut Line) {
         if self < 0 {
-            let next = put_byte(buffer, at, b'-');
-            put_decimal(buffer, next, self.unsigned_abs())
-        } else {
-            put_decimal(buffer, at, self as u64)
+            line.put_byte(b'-');
         }
+        line.put_decimal(self.unsigned_abs());
+    }
+}
+
+impl Line<'_> {
+    // Writes the decimal digits of n after what the line has.
+    // Not by `write!`, whose clauses say what was written where it answers `Ok`, but never that it does.
+    fn put_decimal(&mut self, n: u64)
+        requires { self.old.len + length (decimal n) ≤ LINE_ROOM }
+        ensures { Appended (decimal n) self.old self.new }
+    {
+        if n >= 10 {
+            self.put_decimal(n / 10);
+        }
+        self.put_byte(b'0' + (n % 10) as u8);
     }
 }

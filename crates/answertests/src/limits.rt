@@ -4,10 +4,8 @@ use std::process::Abort;
 
 // Nothing was answered, and every byte of the buffer is still 7.
 fn untouched(rt: &impl Abort, buffer: &[u8], answered: Option<usize>) {
-    assert!(rt; answered.is_none());
-    for byte in buffer {
-        assert!(rt; *byte == 7);
-    }
+    assert_eq!(rt; answered, None);
+    assert!(rt; buffer.iter().all(|byte| *byte == 7));
 }
 
 #[test]
@@ -31,7 +29,7 @@ fn eleven_and_twelve(rt: HostRuntime) {
     let end = write_scaled(&mut buffer, &[1], Total::One(0), 1, &[0; 12], 0);
     untouched(&rt, &buffer, end);
     let end = write_ranked(&mut buffer, &[1; 11], Total::One(0), 1);
-    assert!(rt; end == Some(41));
+    assert_eq!(rt; end, Some(41));
 }
 
 // The longest line: 382 of the 512 bytes.
@@ -47,5 +45,5 @@ fn longest_line(rt: HostRuntime) {
         &[least; 11],
         least,
     );
-    assert!(rt; end == Some(382));
+    assert_eq!(rt; end, Some(382));
 }

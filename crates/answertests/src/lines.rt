@@ -4,12 +4,9 @@ use std::process::Abort;
 
 // The buffer begins with the text, whose length was answered, and its other bytes are still 7.
 fn holds(rt: &impl Abort, buffer: &[u8], answered: Option<usize>, text: &[u8]) {
-    assert!(rt; answered == Some(text.len()));
-    assert!(rt; buffer.len() >= text.len());
-    assert!(rt; &buffer[0..text.len()] == text);
-    for byte in &buffer[text.len()..] {
-        assert!(rt; *byte == 7);
-    }
+    assert_eq!(rt; answered, Some(text.len()));
+    let others = buffer.strip_prefix(text);
+    assert!(rt; others.is_some_and(|bytes| bytes.iter().all(|byte| *byte == 7)));
 }
 
 #[test]

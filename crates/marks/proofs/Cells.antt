@@ -6,15 +6,9 @@ use Rattle.std.proofs.lemmas.List.{get_or-set_same, get_or-set_other}
 use Rattle.rules.specs.Units.{label}
 use Rattle.rules.specs.Sheets.{same_pair}
 use Rattle.rules.specs.Yardsticks.{Low, Symmetric}
-use Rattle.marks.specs.Cells.{is_size, place, pair, read}
+use Rattle.marks.specs.Cells.{place, pair, read}
 
--- what the tests of a size and of a pair say
-pub size_least : (n : ℕ) → is_size n ≡ true → 2 ≤ n
-size_least n e = grind (arith, nat_tests)
-
-pub size_most : (n : ℕ) → is_size n ≡ true → n ≤ 20
-size_most n e = grind (arith, nat_tests)
-
+-- what the test of a pair says
 pub record Two (n a b : ℕ) : Type 0 where
   pub a_low : 1 ≤ a
   pub a_high : a ≤ n

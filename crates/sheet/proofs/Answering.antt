@@ -1,7 +1,7 @@
 -- What Score, Scale, Check and Improve answer and leave, from what is found on the marks as numbers.
 use Rattle.std.proofs.Common.{◌≡◌, ℕ, suc, ◌+◌, ◌-◌, ◌*◌, ◌/◌, Bool, true, false, cond, not, eqb, ltb, List, [], ◌∷◌, ◌++◌, length, take, drop, ℤ, Some, None, sym, refl, ap, ◌∙◌, subst, arith}
 use lib.Seq.{take-append_seam}
-use Rattle.std.proofs.lemmas.Bool.{both_ways, eqb-true, eq-eqb, and_parts, not-false}
+use Rattle.std.proofs.lemmas.Bool.{eqb-true, eq-eqb, and_parts, not-false}
 use Rattle.rules.specs.Units.{with_unit}
 use Rattle.rules.specs.Sheets.{Contents, numbers}
 use Rattle.rules.specs.Yardsticks.{Merit}
@@ -73,9 +73,6 @@ module _ (s : Contents) (row : List ℕ) (list : List ℤ) where
       answer : refused r ≡ scale_outcome s row list
       answer = sym (refused_any tests (scale_answer s row) r e)
 
-  pub list_short : ltb (length list) s.units ≡ true → decide tests (tt {0}) ≡ refused short
-  list_short e = ap (λ b. cond b (refused short) (decide (row_tests s row) (tt {0}))) e
-
   pub list_next : ltb (length list) s.units ≡ false → decide tests (tt {0}) ≡ decide (row_tests s row) (tt {0})
   list_next e = ap (λ b. cond b (refused short) (decide (row_tests s row) (tt {0}))) e
 
@@ -138,10 +135,6 @@ module _ (s : Sheet) (m : Marks) (of : MarksOf s m) (row : List ℕ) (passed : d
 
   ordered : is_order s.units.count (take s.units.count row) ≡ true
   ordered = not-false (is_order s.units.count (take s.units.count row)) (none_holds (row_tests (contents s) row) (tt {0}) (ap is_accepted passed)).1.0
-
-  -- the row is an order for the marks too
-  pub never_unordered : is_order (units_of m) (take (units_of m) row) ≡ false → ⊥
-  never_unordered e = both_ways (is_order s.units.count (take s.units.count row)) (sym (λ i. is_order (of.size i) (take (of.size i) row)) ∙ e) ordered
 
   pub scaled_here : (before end : List ℤ) (l : ℤ) → ltb (length before) s.units.count ≡ false → Scaled m row before end l
       → Scales (contents s) row before (accepted (record { displaced = take s.units.count end; loss = l })) end

@@ -1,18 +1,17 @@
 -- What the calls that change a sheet leave of its contents.
-use Rattle.std.proofs.Common.{◌≡◌, ℕ, ◌<◌, ◌≤◌, Bool, true, false, cond, not, ◌&&◌, ltb, [], ◌∷◌, sym, refl, ap, ◌∙◌, subst, arith, Result, is_ok}
+use Rattle.std.proofs.Common.{◌≡◌, ℕ, ◌<◌, ◌≤◌, Bool, true, false, cond, ◌&&◌, ltb, [], ◌∷◌, sym, refl, ap, ◌∙◌, subst, arith, Result, is_ok}
 use Rattle.std.proofs.lemmas.Bool.{both_ways, lt-ltb, le-ltb}
 use Rattle.std.proofs.lemmas.Bool.Decides.{nat_tests}
 use Rattle.rules.specs.declared.Mark.{Mark}
 use Rattle.rules.specs.declared.Mark.TheVariants.{Gap, Number}
 use Rattle.rules.specs.Yardsticks.{Low}
-use Rattle.rules.specs.Sheets.{Contents, new_contents, with_mark, with_tie, same_pair, same_tie, value}
-use Rattle.rules.specs.Calls.{Refusal, accepted, refused, mark, is_accepted, pair_tests, open_outcome, write_outcome, pair_outcome}
-use Rattle.rules.specs.Calls.{size as size-refusal}
+use Rattle.rules.specs.Sheets.{new_contents, with_mark, with_tie, same_pair, same_tie, value}
+use Rattle.rules.specs.Calls.{Refusal, accepted, refused, mark, is_accepted, pair_tests, write_outcome, pair_outcome}
 use Rattle.rules.specs.Runs.{to_mark, to_tie, changed, if_accepted}
 use Rattle.rules.proofs.Deciding.{decide_past, decide_stop, none_holds}
 use Rattle.marks.specs.declared.faults.MarkFault.{MarkFault}
 use Rattle.marks.specs.declared.ties.Ties.{Ties}
-use Rattle.marks.specs.Cells.{is_size, pair}
+use Rattle.marks.specs.Cells.{pair}
 use Rattle.marks.specs.Tied.{tied_units, tied_of, TieSet, Untied}
 use Rattle.cells.specs.declared.triangle.Triangle.{Triangle}
 use Rattle.cells.specs.Read.{mark_at, number_at, AllGaps}
@@ -186,11 +185,3 @@ opened_contents n t ties gaps none = λ i. record { units = n; mark = λ x y. bl
   where
     blank_at : (x y : ℕ) → cond (pair n x y) (mark_at t x y) Gap ≡ Gap
     blank_at x y = ap (λ k. cond (pair n x y) k Gap) (gaps x y) ∙ elim (pair n x y) as (λ q. cond q Gap Gap ≡ Gap) [ true ↦ refl | false ↦ refl ]
-
-pub opened_low : (t : Triangle) → AllGaps t → Low (number_at t)
-opened_low t gaps x y = rw (gaps x y) (omega arith)
-
--- opening is accepted
-pub open_accepted : (n : ℕ) (s : Contents) → is_size n ≡ true → s ≡ new_contents n → accepted s ≡ open_outcome n
-open_accepted n s size new =
-    ap accepted new ∙ sym (ap (λ b. cond (not b) (refused size-refusal) (accepted (new_contents n))) size)

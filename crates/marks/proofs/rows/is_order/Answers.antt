@@ -3,8 +3,8 @@ use Rattle.rules.specs.Orders.{is_order}
 use Rattle.rules.proofs.Rows.{row_tests_mean}
 use Rattle.marks.proofs.rows.is_order.Goals as goal
 
-pub returns : goal.returns
-returns c =
+pub returns-clause-means : goal.returns-clause-means
+returns-clause-means c =
     let e = c.whole_order.ensures ∙ ap (is_order c.args.n) c.first.ensures in
     let w = row_tests_mean.order c.args.n _ in
-    record { test = e; means = (λ h. w.0 (sym e ∙ h), λ o. e ∙ w.1 o) }
+    (λ h. w.0 (sym e ∙ h), λ o. e ∙ w.1 o)

@@ -1,34 +1,27 @@
-use Rattle.std.proofs.Common.{◌≡◌, ◌≤◌, length, nat_abs, ap, arith, w64, rules}
-use Rattle.std.proofs.lemmas.Int.{to_z-of_z}
-use Rattle.answers.proofs.Placing.{placed_more}
+use Rattle.std.proofs.Common.{◌≡◌, length, nat_abs, ap, arith, rules}
+use Rattle.answers.proofs.Placing.{appended_more}
 use Rattle.answers.proofs.Lengths.{signed_below, signed_above, signed_short}
 use Rattle.answers.proofs.number.I64Number.put.Goals as goal
+use Rattle.answers.proofs.number.I64Number.put.Goals.{then-self-lt0, else-self-lt0}
 
 pub put_decimal-requires : goal.put_decimal-requires
 put_decimal-requires c =
     let abs : c.unsigned_abs.result ≡ nat_abs c.args.self = search rules in
-    omega (arith, ap length (signed_below c.args.self _ (search rules) abs), signed_short c.args.self c.ranges.self.sfits, c.put_byte-next.ensures.ends)
+    let short = signed_short c.args.self c.ranges.self.sfits in
+    elim c.if-self-lt0.branch [
+      | then-self-lt0 w ↦ omega (arith, ap length (signed_below c.args.self _ (search rules) abs), short, w.put_byte.ensures.placed.ends, ap (λ l. l.len) w.line-is)
+      | else-self-lt0 w ↦ omega (arith, ap length (signed_above c.args.self _ (search rules) abs), short, ap (λ l. l.len) w.line-is)
+    ]
 
-pub put_decimal-requires-else-self-lt0 : goal.put_decimal-requires-else-self-lt0
-put_decimal-requires-else-self-lt0 c =
-    let abs = ap nat_abs (to_z-of_z w64 c.args.self c.ranges.self) in
-    omega (arith, ap length (signed_above c.args.self _ (search rules) abs), signed_short c.args.self c.ranges.self.sfits)
-
-pub returns-then-self-lt0 : goal.returns-then-self-lt0
-returns-then-self-lt0 c =
-    let le : c.args.at ≤ length c.args.buffer.now = omega arith in
+pub returns : goal.returns
+returns c =
     let abs : c.unsigned_abs.result ≡ nat_abs c.args.self = search rules in
-    let text = signed_below c.args.self c.unsigned_abs.result (search rules) abs in
-    record {
-      placed = rw text (placed_more le c.put_byte-next.ensures c.put_decimal.ensures);
-      room = omega (arith, ap length text, signed_short c.args.self c.ranges.self.sfits, c.put_byte-next.ensures.ends, c.put_decimal.ensures.ends);
-    }
-
-pub returns-else-self-lt0 : goal.returns-else-self-lt0
-returns-else-self-lt0 c =
-    let abs = ap nat_abs (to_z-of_z w64 c.args.self c.ranges.self) in
-    let text = signed_above c.args.self _ (search rules) abs in
-    record {
-      placed = rw text c.put_decimal-else-self-lt0.ensures;
-      room = omega (arith, ap length text, signed_short c.args.self c.ranges.self.sfits, c.put_decimal-else-self-lt0.ensures.ends);
-    }
+    let short = signed_short c.args.self c.ranges.self.sfits in
+    elim c.if-self-lt0.branch [
+      | then-self-lt0 w ↦ let text = signed_below c.args.self _ (search rules) abs in
+          let placed = appended_more w.put_byte.ensures (rw w.line-is at c.put_decimal.ensures) in
+          record { placed = rw text placed; room = omega (arith, ap length text, short, placed.placed.ends) }
+      | else-self-lt0 w ↦ let text = signed_above c.args.self _ (search rules) abs in
+          let placed = rw w.line-is at c.put_decimal.ensures in
+          record { placed = rw text placed; room = omega (arith, ap length text, short, placed.placed.ends) }
+    ]

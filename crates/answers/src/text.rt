@@ -1,0 +1,45 @@
+// A line that is being written.
+ghost use Rattle.std.specs.Prelude.{◌≤◌, length};
+ghost use Rattle.answers.specs.declared.line.TheConstants.{LINE_ROOM};
+
+// A line that is being written at the start of a lent buffer, and how many bytes it has so far.
+#[derive(Drop)]
+pub(crate) struct Line<'a> {
+    buffer: &'a mut [u8],
+    pub(crate) len: usize,
+    ghost room: { LINE_ROOM ≤ length buffer.now },
+    ghost within: { len ≤ LINE_ROOM },
+}
+
+impl<'a> Line<'a> {
+    ghost use Rattle.std.specs.Prelude.{◌+◌, ◌<◌, ◌≡◌, [], ◌∷◌};
+    ghost use Rattle.answers.specs.Places.{Begun, Appended};
+
+    // Begins a line with no byte yet.
+    // Callers test the room: of a lent buffer in an `Option`, that `None` leaves it unchanged has no generated proof.
+    pub(crate) fn begin(buffer: &'a mut [u8]) -> Line<'a>
+        requires { LINE_ROOM ≤ length buffer.old }
+        ensures { Begun buffer.entry result }
+    {
+        Line { buffer, len: 0 }
+    }
+
+    // Writes a byte after what the line has.
+    pub(crate) fn put_byte(&mut self, byte: u8)
+        requires { self.old.len < LINE_ROOM }
+        ensures { Appended (byte ∷ []) self.old self.new }
+    {
+        self.buffer[self.len] = byte;
+        self.len += 1;
+    }
+
+    // Writes a text after what the line has.
+    pub(crate) fn put_text(&mut self, text: &[u8])
+        requires { self.old.len + length text.now ≤ LINE_ROOM }
+        ensures { Appended text.now self.old self.new }
+    {
+        let end = self.len + text.len();
+        self.buffer[self.len..end].copy_from_slice(text);
+        self.len = end;
+    }
+}
