@@ -11,7 +11,6 @@ import pathlib
 import re
 import sys
 
-LOOP = re.compile(r"^\s*(?:'\w+: )?(for|while|loop)\b")
 COUNTED = re.compile(r"^\s*(?:'\w+: )?(for \w+ in [^{]*\.\.|while (?!let))")
 ENUM = re.compile(r"^\s*(?:pub(?:\(crate\))? )?enum (\w+)")
 FLAG = re.compile(r"let mut \w+ = (?:false|true);|^\s*(?:pub )?\w+: bool,$")
@@ -21,10 +20,12 @@ BY_HAND = re.compile(
     r"fn \w*(?:equal|same|above|name|words|with_total|changed|refusal|exceeds|sign|tally)\w*[(<]|fn number\(self|fn new\(\) -> \w+ \{|Tally \{$"
 )
 ARRAY = re.compile(r"(?::|->|const \w+:|vec!\[in [\w.()]+;) ?&?(?:mut )?\[?\[[\w:<> ]+; ?\w+\]|\bat: usize")
+TESTED = re.compile(r"^ *for [^{\n]* in [^{\n]*\{\n *(?:if|match) [^\n]*\{\n[^\n]*(?:return|\+= 1)", re.M)
 SWITCH = re.compile(r"\bmatch (?:kind|by|wanted|self\.0|self)\b")
 TYPE = re.compile(r"^\s*(?:pub(?:\(crate\))? )?(struct|enum) (\w+)")
 ANSWER = re.compile(r"^pub \S+ : goal\.", re.M)
 REQUIRES = re.compile(r"requires(?: \w+)? \{ (.*) \}")
+COMMON = {"main", "run", "new"}
 FN = re.compile(r"\bfn (\w+)(?:<[^(]*>)?\(([^)]*)\)", re.S)
 
 
@@ -42,6 +43,13 @@ def facts(text):
         part = part.strip("() ")
         part = re.sub(r"\b(units_of marks\.now|self\.\w+\.units|units|n|k)\b", "N", part)
         yield re.sub(r"\.(now|old|new)\b", "", part)
+
+
+def own(text):
+    """A file without the methods of traits and without tests, which have the names that they must have."""
+    text = re.sub(r"^impl(?:<[^\n]*>)? [^\n]* for [^\n]*\{\n.*?^\}", "", text, flags=re.S | re.M)
+    text = re.sub(r"^pub(?:\(crate\))? trait .*?^\}", "", text, flags=re.S | re.M)
+    return re.sub(r"^#\[test\]\n.*?^\}", "", text, flags=re.S | re.M)
 
 
 def parameters(text):
@@ -68,12 +76,12 @@ def gather(root):
             at = f"{where}:{number}: {line.strip()}"
             if line.strip().startswith("#[derive"):
                 derives = line
-            if ENUM.match(line):
-                places[1].append(at)
+            if ENUM.match(line) and "PartialEq" not in derives:
+                places[1].append(at + "   [no derives but Clone, Copy]")
             if FLAG.search(line) or CHANGED.search(line) or NUMBER.search(line):
                 places[1].append(at)
-            if LOOP.match(line):
-                places[3].append(at + ("   [range or count]" if COUNTED.match(line) else ""))
+            if COUNTED.match(line):
+                places[3].append(at)
             if BY_HAND.search(line) and not tested:
                 places[4].append(at)
             if TYPE.match(line):
@@ -87,9 +95,15 @@ def gather(root):
             for clause in REQUIRES.findall(line):
                 for fact in facts(clause):
                     asked[fact].append(f"{where}:{number}")
-        text = path.read_text()
+        for match in TESTED.finditer(path.read_text()):
+            head = match.group(0).split("\n")[0]
+            if not COUNTED.match(head):
+                line = path.read_text()[: match.start()].count("\n") + 1
+                places[3].append(f"{where}:{line}: {head.strip()}   [a test or a search]")
+        text = own(path.read_text())
         for match in FN.finditer(text):
-            names[match.group(1)].append(where)
+            if match.group(1) not in COMMON:
+                names[match.group(1)].append(where)
             them = parameters(match.group(2))
             for pair in zip(them, them[1:]):
                 together[pair].append(f"{where.split('/')[0]} {match.group(1)}")
@@ -116,7 +130,8 @@ def main():
     wanted = [int(a) for a in args if a.isdigit()] or list(range(1, 9))
     places = gather(root)
     for point in wanted:
-        print(f"point {point}: {len(places[point])}")
+        answers = sum(int(place.split()[-2]) for place in places[8]) if point == 8 else 0
+        print(f"point {point}: {len(places[point])}" + (f" files with {answers} answers" if answers else ""))
         for place in places[point]:
             print("  " + place)
 

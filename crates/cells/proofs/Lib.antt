@@ -1,3 +1,4 @@
 pub mod Places
+pub mod Ranges
 pub mod Finding
 pub mod Copying

@@ -1,13 +1,15 @@
 -- The pairs of places in their numbering, by the first place and then by the second.
-use Rattle.std.proofs.Common.{◌≡◌, ℕ, zero, suc, ◌+◌, ◌-◌, ◌*◌, ◌/◌, ◌%◌, ◌<◌, ◌≤◌, Bool, true, false, cond, not, eqb, ltb, List, [], ◌∷◌, ◌++◌, map, length, get_or, filter, sym, refl, ap, ◌∙◌, subst₂, inl, inr, ⊎_elim, mod-lt, mod-eq_of_lt, mul_comm, div-lt_iff_lt-mul, arith, length-append}
+use Rattle.std.proofs.Common.{◌≡◌, ℕ, zero, suc, ◌+◌, ◌-◌, ◌*◌, ◌/◌, ◌%◌, ◌<◌, ◌≤◌, Bool, true, false, cond, not, eqb, ltb, List, [], ◌∷◌, ◌++◌, map, length, get_or, filter, sym, refl, ap, ◌∙◌, subst₂, inl, inr, ⊎_elim, mod-eq_of_lt, mul_comm, div-lt_iff_lt-mul, arith, length-append}
 use native.Mathlib.Nat.{mod-eq-sub-mod, div-eq_of_lt, div-eq-sub-div}
-use lib.ListN.{length-map}
+use Rattle.std.proofs.Math.Seq.{get_or-append_right}
+use Rattle.std.proofs.lemmas.List.{get_or_append_left, get_or-map, length-map}
+use Rattle.std.proofs.lemmas.List.Elements.{filter-append}
 use Rattle.std.specs.List.{range_with_len, flat_map}
 use Rattle.std.proofs.lemmas.List.FromFn.{length-range_with_len, get_or-range_with_len}
 use Rattle.std.proofs.lemmas.Bool.{lt-ltb, le-ltb, eq-eqb, ne_eqb, cases_lt, cond-true, cond-false, not_from_false}
 use Rattle.rules.specs.Moves.{chosen}
 use Rattle.rules.proofs.Members.{In, counting_in}
-use Rattle.rules.proofs.Lists.{get_or_left, get_or_right, get_or_mapped, filter_append, filter_none}
+use Rattle.rules.proofs.Lists.{filter_none}
 
 -- the pairs whose first place is u
 abbrev pub row : (ℕ → ℕ → Bool) → ℕ → ℕ → List (ℕ × ℕ)
@@ -39,7 +41,7 @@ seconds : (f : ℕ → Bool) (u k n : ℕ) → n ≡ u + suc k → f u ≡ false
 seconds f u k n e own later =
     let z : 0 + u ≡ u = omega arith in
     let split : range_with_len 0 n ≡ range_with_len 0 u ++ (u ∷ range_with_len (u + 1) k) = counting_at 0 u k n e ∙ ap (λ (x : ℕ). range_with_len 0 u ++ (x ∷ range_with_len (x + 1) k)) z in
-    ap (filter f) split ∙ filter_append f (range_with_len 0 u) (u ∷ range_with_len (u + 1) k)
+    ap (filter f) split ∙ filter-append f (range_with_len 0 u) (u ∷ range_with_len (u + 1) k)
     ∙ ap (λ (l : List ℕ). filter f (range_with_len 0 u) ++ l)
     (cond-false (f u) (u ∷ filter f (range_with_len (u + 1) k)) (filter f (range_with_len (u + 1) k)) own
     ∙ all_kept f (range_with_len (u + 1) k) (λ v i. later v (omega (arith, (counting_in (u + 1) k v i).0))))
@@ -47,9 +49,6 @@ seconds f u k n e own later =
 -- the first row, and the others after it
 rows_more : (test : ℕ → ℕ → Bool) (n u : ℕ) → u < n → rows test n u (n - u) ≡ row test n u ++ rows test n (u + 1) (n - (u + 1))
 rows_more test n u h = let s : n - u ≡ suc (n - (u + 1)) = omega arith in ap (rows test n u) s
-
-rows_end : (test : ℕ → ℕ → Bool) (n u : ℕ) → n ≤ u → rows test n u (n - u) ≡ []
-rows_end test n u h = let s : n - u ≡ 0 = omega arith in ap (rows test n u) s
 
 -- interchange: v after u
 above : (n u : ℕ) → u < n → filter (ltb u) (range_with_len 0 n) ≡ range_with_len (u + 1) (n - u - 1)
@@ -75,23 +74,17 @@ many_pairs (suc k) n u e =
     twice zero = refl
     twice (suc j) = let s : suc j - 1 ≡ j = omega arith in rw s (omega (arith, mul_comm (suc (suc j)) (suc j), mul_comm (suc j) j))
 
--- a pair is left only where a place is
-pub some_left : (n u left : ℕ) → left < length (rows ltb n u (n - u)) → u < n
-some_left n u left h =
-    ⊎_elim (λ l. l) (λ l. absurd (omega (arith, ap length (rows_end ltb n u l)))) (cases_lt u n)
-
 -- the pair with a number is past the first row
-pub past_row : (n u left : ℕ) → left < length (rows ltb n u (n - u)) → n - u - 1 ≤ left
+pub past_row : (n u left : ℕ) → u < n → left < length (rows ltb n u (n - u)) → n - u - 1 ≤ left
     → (left - (n - u - 1) < length (rows ltb n (u + 1) (n - (u + 1))))
     × (get_or (rows ltb n (u + 1) (n - (u + 1))) (left - (n - u - 1)) (0, 0) ≡ get_or (rows ltb n u (n - u)) left (0, 0))
-past_row n u left h l =
-    let lt = some_left n u left h in
+past_row n u left lt h l =
     let long = row_long n u lt in
     let rest = rows ltb n (u + 1) (n - (u + 1)) in
     let whole = ap length (rows_more ltb n u lt) ∙ length-append (row ltb n u) rest in (
       omega (arith, whole, long),
       ap (λ (k : ℕ). get_or rest (left - k) (0, 0)) (sym long)
-          ∙ sym (get_or_right (row ltb n u) rest left (0, 0) (omega (arith, long)))
+          ∙ sym (get_or-append_right (row ltb n u) rest left (0, 0) (omega (arith, long)))
           ∙ ap (λ (r : List (ℕ × ℕ)). get_or r left (0, 0)) (sym (rows_more ltb n u lt)),
     )
 
@@ -101,8 +94,8 @@ in_row n u left lt l =
     let long = row_long n u lt in
     let few : left < length (filter (ltb u) (range_with_len 0 n)) = omega (arith, ap length (above n u lt), length-range_with_len (u + 1) (n - u - 1)) in
     ap (λ (r : List (ℕ × ℕ)). get_or r left (0, 0)) (rows_more ltb n u lt)
-    ∙ get_or_left (row ltb n u) (rows ltb n (u + 1) (n - (u + 1))) left (0, 0) (omega (arith, long))
-    ∙ get_or_mapped {Y = ℕ × ℕ} (λ v. (u, v)) (filter (ltb u) (range_with_len 0 n)) left 0 (0, 0) few
+    ∙ get_or_append_left (row ltb n u) (rows ltb n (u + 1) (n - (u + 1))) (0, 0) left (omega (arith, long))
+    ∙ get_or-map {Y = ℕ × ℕ} (λ v. (u, v)) (filter (ltb u) (range_with_len 0 n)) left 0 (0, 0) few
     ∙ ap (λ (r : List ℕ). (u, get_or r left 0)) (above n u lt)
     ∙ ap (λ (v : ℕ). (u, v)) (get_or-range_with_len (u + 1) (n - u - 1) left 0 l)
 
@@ -127,13 +120,13 @@ other_at n u w h l =
   where
     low : w < u → get_or (range_with_len 0 u ++ range_with_len (u + 1) (n - u - 1)) w 0 ≡ cond (ltb w u) w (w + 1)
     low k =
-        get_or_left (range_with_len 0 u) (range_with_len (u + 1) (n - u - 1)) w 0 (omega (arith, length-range_with_len 0 u))
+        get_or_append_left (range_with_len 0 u) (range_with_len (u + 1) (n - u - 1)) 0 w (omega (arith, length-range_with_len 0 u))
         ∙ get_or-range_with_len 0 u w 0 k ∙ (omega arith) ∙ sym (cond-true (ltb w u) w (w + 1) (lt-ltb w u k))
 
     high : u ≤ w → get_or (range_with_len 0 u ++ range_with_len (u + 1) (n - u - 1)) w 0 ≡ cond (ltb w u) w (w + 1)
     high k =
         let long = length-range_with_len 0 u in
-        get_or_right (range_with_len 0 u) (range_with_len (u + 1) (n - u - 1)) w 0 (omega (arith, long))
+        get_or-append_right (range_with_len 0 u) (range_with_len (u + 1) (n - u - 1)) w 0 (omega (arith, long))
         ∙ get_or-range_with_len (u + 1) (n - u - 1) (w - length (range_with_len 0 u)) 0 (omega (arith, long))
         ∙ (omega (arith, long)) ∙ sym (cond-false (ltb w u) w (w + 1) (le-ltb w u k))
 
@@ -169,8 +162,8 @@ apart_from (suc k) n u m e s h = ⊎_elim here (there (apart_from k n (u + 1) (m
         let none : u ≡ u + m / (n - 1) = omega (arith, div-eq_of_lt l) in
         let all : m ≡ m % (n - 1) = sym (mod-eq_of_lt l) in
         let at : Is u m =
-        get_or_left (row apart n u) (rows apart n (u + 1) k) m (0, 0) (omega (arith, long))
-        ∙ get_or_mapped {Y = ℕ × ℕ} (λ v. (u, v)) (filter (apart u) (range_with_len 0 n)) m 0 (0, 0) (omega (arith, others_long n u lt))
+        get_or_append_left (row apart n u) (rows apart n (u + 1) k) (0, 0) m (omega (arith, long))
+        ∙ get_or-map {Y = ℕ × ℕ} (λ v. (u, v)) (filter (apart u) (range_with_len 0 n)) m 0 (0, 0) (omega (arith, others_long n u lt))
         ∙ ap (λ (v : ℕ). (u, v)) (other_at n u m lt l) in
         subst₂ Is none all at
 
@@ -183,21 +176,29 @@ apart_from (suc k) n u m e s h = ⊎_elim here (there (apart_from k n (u + 1) (m
         let q : u + 1 + (m - (n - 1)) / (n - 1) ≡ u + m / (n - 1) = omega (arith, div-eq-sub-div s l) in
         let r : (m - (n - 1)) % (n - 1) ≡ m % (n - 1) = sym (mod-eq-sub-mod l) in
         let at : Is (u + 1 + (m - (n - 1)) / (n - 1)) ((m - (n - 1)) % (n - 1)) =
-        get_or_right (row apart n u) (rows apart n (u + 1) k) m (0, 0) (omega (arith, long))
+        get_or-append_right (row apart n u) (rows apart n (u + 1) k) m (0, 0) (omega (arith, long))
         ∙ ap (λ (x : ℕ). get_or (rows apart n (u + 1) k) (m - x) (0, 0)) long
         ∙ rec (omega arith) s less in
         subst₂ Is q r at
 
--- the pair with a number
-pub apart_at : (n m : ℕ) → 0 < n - 1 → m < n * (n - 1)
-    → get_or (chosen apart n) m (0, 0) ≡ (m / (n - 1), cond (ltb (m % (n - 1)) (m / (n - 1))) (m % (n - 1)) (m % (n - 1) + 1))
-apart_at n m s h =
-    let z : 0 + m / (n - 1) ≡ m / (n - 1) = omega arith in
-    apart_from n n 0 m (omega arith) s h ∙ ap (λ (q : ℕ). (q, cond (ltb (m % (n - 1)) q) (m % (n - 1)) (m % (n - 1) + 1))) z
+-- the pair with a number, where there are so many
+module _ (n m : ℕ) (s : 0 < n - 1) (l : m < length (chosen apart n)) where
+  below : m < n * (n - 1)
+  below = omega (arith, many_apart n n 0 (omega arith))
 
--- both places are places
-pub first_within : (n m : ℕ) → 0 < n - 1 → m < n * (n - 1) → m / (n - 1) < n
-first_within n m s h = (div-lt_iff_lt-mul s).1 h
+  apart_at : get_or (chosen apart n) m (0, 0) ≡ (m / (n - 1), cond (ltb (m % (n - 1)) (m / (n - 1))) (m % (n - 1)) (m % (n - 1) + 1))
+  apart_at =
+      let z : 0 + m / (n - 1) ≡ m / (n - 1) = omega arith in
+      apart_from n n 0 m (omega arith) s below ∙ ap (λ (q : ℕ). (q, cond (ltb (m % (n - 1)) q) (m % (n - 1)) (m % (n - 1) + 1))) z
 
-pub rest_within : (n m : ℕ) → 0 < n - 1 → m % (n - 1) < n - 1
-rest_within n m s = mod-lt m s
+  -- its second place before its first
+  pub earlier_at : m % (n - 1) < m / (n - 1) → get_or (chosen apart n) m (0, 0) ≡ (m / (n - 1), m % (n - 1))
+  earlier_at h = apart_at ∙ ap (λ (v : ℕ). (m / (n - 1), v)) (cond-true _ _ _ (lt-ltb _ _ h))
+
+  -- or after it
+  pub later_at : m / (n - 1) ≤ m % (n - 1) → get_or (chosen apart n) m (0, 0) ≡ (m / (n - 1), m % (n - 1) + 1)
+  later_at h = apart_at ∙ ap (λ (v : ℕ). (m / (n - 1), v)) (cond-false _ _ _ (le-ltb _ _ h))
+
+  -- its first place is one
+  pub first_within : m / (n - 1) < n
+  first_within = (div-lt_iff_lt-mul s).1 below

@@ -3,3 +3,4 @@ pub mod Places
 pub mod Members
 pub mod Trials
 pub mod Improving
+pub mod Faults

@@ -5,12 +5,14 @@ ghost use Rattle.moves.specs.Places.{place_pair};
 ghost use Rattle.rules.proofs.Moving.{moves_lawful};
 
 use crate::kind::MoveKind;
+use marks::units::Units;
 
 pub struct Insertion;
 
-// The places u and v ≠ u, from 0, of the move with a number: the moves are numbered by u, then by v.
+// The places u and v ≠ u, from 0, of the move with a number: the moves are numbered by u, then by v. Found by a division,
+// since each u has as many v as there are other units.
 fn places(units: usize, number: u32) -> (usize, usize)
-    requires { (2 ≤ units) × ((units ≤ 20) × ((1 ≤ number) × (number ≤ insertion.many units))) }
+    requires { (2 ≤ units) × ((1 ≤ number) × (number ≤ insertion.many units)) }
     ensures value { result ≡ place_pair (λ u v. not (u == v)) units number }
     ensures within { (result.0 < units) × (result.1 < units) }
 {
@@ -26,9 +28,9 @@ fn insert(order: &mut [u8], u: usize, v: usize)
     ensures { order.new ≡ inserted u v order.old }
 {
     if u < v {
-        order[u..v + 1].rotate_left(1);
+        order[u..=v].rotate_left(1);
     } else {
-        order[v..u + 1].rotate_right(1);
+        order[v..=u].rotate_right(1);
     }
 }
 
@@ -41,8 +43,9 @@ impl MoveKind for Insertion {
 
     ghost order_again = { moves_lawful.1.order_again };
 
-    fn many(units: usize) -> u32 {
-        (units * (units - 1)) as u32
+    fn many(units: Units) -> u32 {
+        let n = units.count();
+        (n * (n - 1)) as u32
     }
 
     fn make(number: u32, order: &mut [u8]) {

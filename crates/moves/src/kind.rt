@@ -2,6 +2,8 @@
 ghost use Rattle.std.specs.Prelude.{◌≡◌, ℕ, ◌^◌, ◌<◌, ◌≤◌, List, length};
 ghost use Rattle.rules.specs.Orders.{Order};
 
+use marks::units::Units;
+
 // Some ways to rearrange an order, numbered from 1.
 pub trait MoveKind {
     // how many moves there are, for a number of units
@@ -11,11 +13,10 @@ pub trait MoveKind {
     ghost moved: { ℕ → ℕ → List ℕ → List ℕ };
 
     // How many moves there are for some units.
-    fn many(units: usize) -> u32
-        requires { (2 ≤ units) × (units ≤ 20) }
-        ensures { result ≡ many units };
+    fn many(units: Units) -> u32
+        ensures { result ≡ many units.count };
 
-    // Makes the move with a number on a whole order.
+    // Makes the move with a number on a whole order. The number is a plain one, since its bound is a fact of the order too.
     fn make(number: u32, order: &mut [u8])
         requires { (2 ≤ length order.old) × ((length order.old ≤ 20) × ((1 ≤ number) × (number ≤ many (length order.old)))) }
         ensures { order.new ≡ moved (length order.old) number order.old };

@@ -1,5 +1,5 @@
 // A move on trial: a guard over the lent row that takes the move back unless it is kept.
-ghost use Rattle.std.specs.Prelude.{◌≡◌, ◌≤◌, true, false, ◌++◌, length, take, drop, if◌then◌else◌};
+ghost use Rattle.std.specs.Prelude.{◌≡◌, ◌≤◌, true, length, take};
 ghost use Rattle.rules.specs.Orders.{is_order};
 ghost use Rattle.marks.specs.Numbers.{units_of};
 ghost use Rattle.marks.specs.Tied.{tied_units};
@@ -14,72 +14,37 @@ use marks::ties::Ties;
 use yardsticks::total::total;
 use yardsticks::yardstick::Yardstick;
 
-// The lent row, and a copy of the order in its first places.
+// The lent row, which is an order of at most twenty units, and a copy of the order as it was.
 pub(crate) struct Trial<'a> {
     row: &'a mut [u8],
-    units: usize,
     before: [u8; 20],
-    kept: bool,
+    ghost most: { length row.now ≤ 20 },
 }
 
 impl Drop for Trial<'_> {
-    // The order as it was before the trial is put back, unless the move was kept.
+    // The order as it was before the trial is put back.
     fn drop(self)
-        requires { (self.units ≤ length self.row.now) × (self.units ≤ 20) }
-        ensures { self.exit.0.now ≡ (if self.entry.kept then self.entry.row.now else take self.entry.units self.entry.before ++ drop self.entry.units self.entry.row.now) }
+        ensures { self.exit.0.now ≡ take (length self.entry.row.now) self.entry.before }
     {
-        let Trial {
-            row,
-            units,
-            before,
-            kept,
-        } = self;
-        if !kept {
-            row[0..units].copy_from_slice(&before[0..units]);
-        }
+        let Trial { row, before } = self;
+        let units = row.len();
+        row.copy_from_slice(&before[..units]);
     }
-}
-
-// A copy of the order in the first places of a row.
-fn copied(row: &[u8], units: usize) -> [u8; 20]
-    requires { (units ≤ length row.now) × (units ≤ 20) }
-    ensures { take units result ≡ take units row.now }
-{
-    let mut copy = [0; 20];
-    copy[0..units].copy_from_slice(&row[0..units]);
-    copy
 }
 
 impl<'a> Trial<'a> {
-    // A trial on the order in the first places of a row.
-    pub(crate) fn new(row: &'a mut [u8], units: usize) -> Trial<'a>
-        requires { (units ≤ length row.old) × (units ≤ 20) }
+    // Makes a move on trial, on the order in a row.
+    pub(crate) fn new<M: MoveKind>(row: &'a mut [u8], number: u32) -> Trial<'a>
+        requires size { (2 ≤ length row.old) × (length row.old ≤ 20) }
+        requires number { (1 ≤ number) × (number ≤ M.MoveKind.many (length row.old)) }
         ensures lent { result.row.ghost_name ≡ row.entry.ghost_name }
-        ensures row { result.row.now ≡ row.old }
-        ensures units { result.units ≡ units }
-        ensures before { take units result.before ≡ take units row.old }
-        ensures kept { result.kept ≡ false }
+        ensures row { result.row.now ≡ M.MoveKind.moved (length row.old) number row.old }
+        ensures before { take (length row.old) result.before ≡ row.old }
     {
-        let before = copied(row, units);
-        Trial {
-            row,
-            units,
-            before,
-            kept: false,
-        }
-    }
-
-    // Makes a move.
-    pub(crate) fn make<M: MoveKind>(&mut self, number: u32)
-        requires { (self.old.units ≤ length self.old.row.now) × ((2 ≤ self.old.units) × ((self.old.units ≤ 20) × ((1 ≤ number) × (number ≤ M.MoveKind.many self.old.units)))) }
-        ensures lent { self.new.row.ghost_name ≡ self.old.row.ghost_name }
-        ensures row { self.new.row.now ≡ M.MoveKind.moved self.old.units number (take self.old.units self.old.row.now) ++ drop self.old.units self.old.row.now }
-        ensures units { self.new.units ≡ self.old.units }
-        ensures before { self.new.before ≡ self.old.before }
-        ensures kept { self.new.kept ≡ self.old.kept }
-    {
-        let units = self.units;
-        M::make(number, &mut self.row[0..units]);
+        let mut before = [0; 20];
+        before[..row.len()].copy_from_slice(row);
+        M::make(number, row);
+        Trial { row, before }
     }
 
     // The total of the order on trial, if it keeps the ties and has a greater total than the best so far.
@@ -90,27 +55,19 @@ impl<'a> Trial<'a> {
         best: Y::Total,
     ) -> Option<Y::Total>
         requires units { tied_units ties.now ≡ units_of marks.now }
-        requires order { is_order (units_of marks.now) (take (units_of marks.now) self.now.row.now) ≡ true }
+        requires order { is_order (units_of marks.now) (order_of marks.now self.now.row.now) ≡ true }
         ensures { Better (merit_of Y.Yardstick) Y.Yardstick.numbers marks.now ties.now (Y.Yardstick.numbers best) (order_of marks.now self.now.row.now) result }
     {
         if !keeps(ties, self.row) {
             return None;
         }
-        let total = total::<Y>(marks, self.row).unwrap();
-        if Y::exceeds(total, best) {
-            Some(total)
-        } else {
-            None
-        }
+        total::<Y>(marks, self.row).filter(|total| Y::exceeds(*total, best))
     }
 
-    // Keeps the move.
-    pub(crate) fn keep(&mut self)
-        ensures lent { self.new.row.ghost_name ≡ self.old.row.ghost_name }
-        ensures row { self.new.row.now ≡ self.old.row.now }
-        ensures units { self.new.units ≡ self.old.units }
-        ensures kept { self.new.kept ≡ true }
+    // Ends the trial with the move kept: the pattern takes the guard apart, and its drop does not run.
+    pub(crate) fn keep(self)
+        ensures { self.exit.0.now ≡ self.entry.row.now }
     {
-        self.kept = true;
+        let Trial { row: _, before: _ } = self;
     }
 }

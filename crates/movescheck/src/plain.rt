@@ -17,11 +17,10 @@ pub trait PlainMove: MoveKind {
 }
 
 impl PlainMove for Interchange {
-    fn moved(row: Row, u: usize, v: usize) -> Option<Row> {
+    fn moved(mut row: Row, u: usize, v: usize) -> Option<Row> {
         if u >= v {
             return None;
         }
-        let mut row = row;
         row.swap(u, v);
         Some(row)
     }
@@ -29,11 +28,10 @@ impl PlainMove for Interchange {
 
 impl PlainMove for Insertion {
     // The unit at u changes places with its neighbours one by one.
-    fn moved(row: Row, u: usize, v: usize) -> Option<Row> {
+    fn moved(mut row: Row, u: usize, v: usize) -> Option<Row> {
         if u == v {
             return None;
         }
-        let mut row = row;
         for place in u..v {
             row.swap(place, place + 1);
         }

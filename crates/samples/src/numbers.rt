@@ -29,7 +29,7 @@ impl Numbers {
         self.below(units.count() as u64) as usize + 1
     }
 
-    // Puts some units into a pseudo-random order.
+    // Puts some units into a pseudo-random order. An index, since two places are exchanged.
     pub fn shuffle(&mut self, units: &mut [u8]) {
         for i in 1..units.len() {
             let other = self.below(i as u64 + 1) as usize;

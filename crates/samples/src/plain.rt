@@ -68,6 +68,8 @@ impl Plain for Target {
     }
 }
 
+const NONE: Grades = Grades { signs: 0, rises: 0 };
+
 // How far the outer mark of three units in row order is above the two inner ones, and the signs of that.
 fn graded(outer: u16, left: u16, right: u16) -> Grades
     ensures { (unsigned_abs result.signs ≤ 2) × (unsigned_abs result.rises ≤ 2 * 65535) }
@@ -86,14 +88,11 @@ fn between(marks: &Marks, first: u8, middles: &[u8], last: u8) -> Grades
     ensures { (unsigned_abs result.signs ≤ 2 * 20) × (unsigned_abs result.rises ≤ 2 * 65535 * 20) }
 {
     let outer = mark(marks, first, last);
-    let mut signs = 0;
-    let mut rises = 0;
+    let mut sum = NONE;
     for &middle in middles {
-        let more = graded(outer, mark(marks, first, middle), mark(marks, middle, last));
-        signs += more.signs;
-        rises += more.rises;
+        sum = sum + graded(outer, mark(marks, first, middle), mark(marks, middle, last));
     }
-    Grades { signs, rises }
+    sum
 }
 
 // What a unit adds with each two that stand before it.
@@ -101,26 +100,20 @@ fn up_to(marks: &Marks, earlier: &[u8], last: u8) -> Grades
     requires { length earlier.now ≤ 20 }
     ensures { (unsigned_abs result.signs ≤ 2 * 20 * 20) × (unsigned_abs result.rises ≤ 2 * 65535 * 20 * 20) }
 {
-    let mut signs = 0;
-    let mut rises = 0;
+    let mut sum = NONE;
     for (i, &first) in earlier.iter().enumerate() {
-        let more = between(marks, first, &earlier[i + 1..], last);
-        signs += more.signs;
-        rises += more.rises;
+        sum = sum + between(marks, first, &earlier[i + 1..], last);
     }
-    Grades { signs, rises }
+    sum
 }
 
 impl Plain for Gradient {
     fn plain_total(marks: &Marks, row: &Row) -> Grades {
         let order = &row[..marks.units()];
-        let mut signs = 0;
-        let mut rises = 0;
+        let mut sum = NONE;
         for (i, &last) in order.iter().enumerate() {
-            let more = up_to(marks, &order[..i], last);
-            signs += more.signs;
-            rises += more.rises;
+            sum = sum + up_to(marks, &order[..i], last);
         }
-        Grades { signs, rises }
+        sum
     }
 }

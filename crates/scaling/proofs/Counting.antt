@@ -1,9 +1,10 @@
--- Counts along a row, unit by unit: what is counted so far, with the count of the rest, is the count of all.
-use Rattle.std.proofs.Common.{◌≡◌, ℕ, ◌+◌, ◌-◌, ◌*◌, ◌/◌, ◌<◌, ◌≤◌, true, List, [], ◌∷◌, length, get_or, take, drop, sym, refl, ap, ◌∙◌, arith}
-use Rattle.std.proofs.lemmas.List.{at_drop_more, at_drop_all, take_rest}
+-- How many comparisons are kept, and how many are broken.
+use Rattle.std.proofs.Common.{◌≡◌, ℕ, ◌+◌, ◌-◌, ◌*◌, ◌/◌, ◌≤◌, true, List, [], ◌∷◌, length, get_or, take, drop, sym, refl, ap, ◌∙◌, arith, Bool, false, sum_by, lit≤, nat_le}
+use Rattle.std.proofs.lemmas.List.Sums.{sum_by-cons}
+use Rattle.std.proofs.lemmas.List.{take_rest}
 use Rattle.rules.specs.Units.{sum_over}
 use Rattle.rules.specs.Orders.{is_order}
-use Rattle.rules.specs.Pattern.{triples_at, triples_from, triples, kept_at, kept, broken}
+use Rattle.rules.specs.Pattern.{triples_at, triples_from, triples, one_if, kept_at, kept, broken}
 use Rattle.rules.proofs.Lists.{sum_append}
 use Rattle.rules.proofs.Rows.{is_order_means}
 use Rattle.rules.proofs.Comparisons.{comparisons, unbroken}
@@ -11,54 +12,43 @@ use Rattle.marks.specs.declared.marks.Marks.{Marks}
 use Rattle.marks.specs.Numbers.{units_of, numbers_of}
 use Rattle.scaling.specs.Compared.{Compared}
 
--- a count F of a list that adds G of each element and of those that follow it
-pub record Count : Type 0 where
-  pub F : List ℕ → ℕ
-  pub G : ℕ → List ℕ → ℕ
-  pub none : F [] ≡ 0
-  pub more : (x : ℕ) (xs : List ℕ) → F (x ∷ xs) ≡ G x xs + F xs
+one_low : (b : Bool) → one_if b ≤ 1
+one_low true = lit≤ tt
+one_low false = lit≤ tt
 
--- r is counted of the first i
-abbrev pub Sofar : Count → List ℕ → ℕ → ℕ → Type 0
-Sofar k xs i r = r + k.F (drop i xs) ≡ k.F xs
-
-module _ (k : Count) (xs : List ℕ) (i r : ℕ) (so_far : Sofar k xs i r) where
-  pub one_more : i < length xs → (d : ℕ) → d ≡ k.G (get_or xs i 0) (drop (i + 1) xs) → Sofar k xs (i + 1) (r + d)
-  one_more l d e = omega (arith, so_far, at_drop_more k.F xs i 0 l, k.more (get_or xs i 0) (drop (i + 1) xs))
-
-  pub none_left : length xs ≤ i → r ≡ k.F xs
-  none_left l = omega (arith, so_far, at_drop_all k.F xs i l, k.none)
-
--- what is counted of an element and of the rest of the list, as the code has it
-pub on_rest : (k : Count) (xs : List ℕ) (i d : ℕ) → d ≡ k.G (get_or xs i 0) (take (length xs - (i + 1)) (drop (i + 1) xs))
-    → d ≡ k.G (get_or xs i 0) (drop (i + 1) xs)
-on_rest k xs i d e = e ∙ ap (k.G (get_or xs i 0)) (take_rest xs (i + 1))
-
--- the comparisons kept of two units with each of some, of one with each two, and of a row
 module _ (p : ℕ → ℕ → ℕ) where
-  abbrev pub with_two : ℕ → ℕ → Count
-  with_two u v = record {
-    F = λ ws. sum_over (kept_at p) (triples_at u v ws);
-    G = λ w _. kept_at p (record { first = u; middle = v; last = w });
-    none = refl;
-    more = λ _ _. refl;
-  }
+  -- of two units and each of some
+  module _ (u v : ℕ) where
+    abbrev pub with_last : ℕ → ℕ
+    with_last w = kept_at p (record { first = u; middle = v; last = w })
 
-  abbrev pub with_one : ℕ → Count
-  with_one u = record {
-    F = λ vs. sum_over (kept_at p) (triples_from u vs);
-    G = λ v ws. sum_over (kept_at p) (triples_at u v ws);
-    none = refl;
-    more = λ v ws. sum_append (kept_at p) (triples_at u v ws) (triples_from u ws);
-  }
+    pub each_last : (ws : List ℕ) → sum_by with_last ws ≡ sum_over (kept_at p) (triples_at u v ws)
+    each_last [] = refl
+    each_last (w ∷ ws) = sum_by-cons with_last w ws ∙ ap (λ s. with_last w + s) (each_last ws)
 
-  abbrev pub of_row : Count
-  of_row = record {
-    F = kept p;
-    G = λ u vs. sum_over (kept_at p) (triples_from u vs);
-    none = refl;
-    more = λ u vs. sum_append (kept_at p) (triples_from u vs) (triples vs);
-  }
+    pub few_last : (ws : List ℕ) → sum_over (kept_at p) (triples_at u v ws) ≤ 2 * length ws
+    few_last [] = omega arith
+    few_last (w ∷ ws) = omega (arith, few_last ws, one_low (nat_le (p u v) (p u w)), one_low (nat_le (p v w) (p u w)))
+
+  -- all but the first, as the code has them
+  abbrev pub rest : List ℕ → List ℕ
+  rest xs = take (length xs - 1) (drop 1 xs)
+
+  -- of one unit and each two of some: those of the first of them, and the others
+  pub first_middle : (u : ℕ) (vs : List ℕ) → 1 ≤ length vs
+      → sum_over (kept_at p) (triples_from u vs)
+      ≡ sum_over (kept_at p) (triples_at u (get_or vs 0 0) (rest vs)) + sum_over (kept_at p) (triples_from u (rest vs))
+  first_middle u [] l = absurd (omega arith)
+  first_middle u (v ∷ vs) l =
+      sum_append (kept_at p) (triples_at u v vs) (triples_from u vs)
+      ∙ ap (λ ws. sum_over (kept_at p) (triples_at u v ws) + sum_over (kept_at p) (triples_from u ws)) (sym (take_rest (v ∷ vs) 1))
+
+  -- of a row: those of its first unit, and the others
+  pub first_unit : (us : List ℕ) → 1 ≤ length us → kept p us ≡ sum_over (kept_at p) (triples_from (get_or us 0 0) (rest us)) + kept p (rest us)
+  first_unit [] l = absurd (omega arith)
+  first_unit (u ∷ us) l =
+      sum_append (kept_at p) (triples_from u us) (triples us)
+      ∙ ap (λ vs. sum_over (kept_at p) (triples_from u vs) + kept p vs) (sym (take_rest (u ∷ us) 1))
 
 -- what is kept of an order, and the rest of all comparisons
 module _ (m : Marks) (o : List ℕ) (is : is_order (units_of m) o ≡ true) (k all : ℕ)

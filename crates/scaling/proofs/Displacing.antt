@@ -85,19 +85,22 @@ module _ (m : Marks) (o : List ℕ) (is : is_order (units_of m) o ≡ true) (old
         later : List ℤ
         later = after m (with_unit A next) (drop (suc i) o)
 
-    -- what the code has for the displacement, its square and the set
-    module _ (z : ℤ) (r : ℕ) (e : z ≡ far) (f : r ≡ nat_abs z * nat_abs z) where
+    -- what the code has for the label, the displacement, its square and the set
+    module _ (j : ℕ) (is_next : j ≡ next) (z : ℤ) (r : ℕ) (e : z ≡ displacement (numbers_of m) (units_of m) A j) (f : r ≡ nat_abs z * nat_abs z) where
+      far_is : z ≡ far
+      far_is = e ∙ ap (displacement (numbers_of m) (units_of m) A) is_next
+
       size_is : r ≡ nat_abs far * nat_abs far
-      size_is = f ∙ ap (λ (x : ℤ). nat_abs x * nat_abs x) e
+      size_is = f ∙ ap (λ (x : ℤ). nat_abs x * nat_abs x) far_is
 
       pub next_few : s + r ≤ 800000000000
       next_few = omega (arith, w.few, size_is, square_low (nat_abs far) 200000 (near m A next), order.as_many, most m)
 
-      pub next_unit : (B : ℕ) → B ≡ cond (ltb 32 next || has A next) A (with_unit A next) → i < length list
-          → Sofar m o old (i + 1) B (s + r) (set list i z)
+      pub next_unit : (B : ℕ) → B ≡ cond (ltb 32 j || has A j) A (with_unit A j) → i < length list → Sofar m o old (i + 1) B (s + r) (set list i z)
       next_unit B b l =
           subst₂ (λ (B : ℕ) (v : ℤ × ℕ). Sofar m o old (i + 1) B (s + v.1) (set list i v.0))
-          (sym (put_to (units_of m) A next B (most m) next_label next_out b)) (λ k. (sym e k, sym size_is k)) (one_more l)
+          (sym (put_to (units_of m) A next B (most m) next_label next_out (b ∙ ap (λ j. cond (ltb 32 j || has A j) A (with_unit A j)) is_next)))
+          (λ k. (sym far_is k, sym size_is k)) (one_more l)
 
   -- no unit is left
   module _ (i A s : ℕ) (list : List ℤ) (w : Sofar m o old i A s list) (e : i ≡ length o) where

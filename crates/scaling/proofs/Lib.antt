@@ -1,4 +1,4 @@
-pub mod Orders
+pub mod Ranges
 pub mod Counting
 pub mod Squares
 pub mod Displacing

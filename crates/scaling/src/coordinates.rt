@@ -1,5 +1,5 @@
 // Coordinates along a line in n-ths, and their loss in n-ths.
-ghost use Rattle.std.specs.Prelude.{◌≡◌, ◌+◌, ◌*◌, ◌<◌, ◌≤◌, true, ◌++◌, length, drop, pos, ◌-ℤ◌, ◌*ℤ◌};
+ghost use Rattle.std.specs.Prelude.{◌≡◌, ◌+◌, ◌*◌, ◌<◌, ◌≤◌, true, ◌++◌, length, drop, pos, sum_by, ◌-ℤ◌, ◌*ℤ◌, ◌-◌};
 ghost use Rattle.rules.specs.Units.{labels, sum_ℤ};
 ghost use Rattle.rules.specs.Sheets.{pairs_in};
 ghost use Rattle.rules.specs.Orders.{is_order};
@@ -7,9 +7,10 @@ ghost use Rattle.rules.specs.Scaling.{square, displacements};
 ghost use Rattle.marks.specs.Numbers.{units_of, numbers_of};
 ghost use Rattle.scaling.specs.Scaled.{Scales};
 
+use crate::orders::order_of;
 use marks::marks::Marks;
-use marks::rows::is_order;
 use marks::sets::with_unit;
+use marks::units::Units;
 
 // The square of a number that is not above 200,000.
 fn squared(x: u64) -> u64
@@ -19,17 +20,21 @@ fn squared(x: u64) -> u64
     x * x
 }
 
-// The sum of the squared marks of a unit and each unit before it in label order; k are before it.
-fn squares_before(marks: &Marks, k: usize) -> u64
-    requires { k < 20 }
-    ensures value { pos result ≡ sum_ℤ (λ a. square (pos (numbers_of marks.now a (k + 1)))) (labels k) }
-    ensures low { result ≤ 2000000000 }
+// The square of the mark of two units.
+fn squared_mark(marks: &Marks, a: usize, b: usize) -> u64
+    ensures { result ≡ numbers_of marks.now a b * numbers_of marks.now a b }
 {
-    let mut sum = 0;
-    for i in 0..k {
-        sum += squared(u64::from(marks.mark(i + 1, k + 1)));
-    }
-    sum
+    squared(u64::from(marks.mark(a, b)))
+}
+
+// The sum of the squared marks of a unit and each unit before it in label order.
+fn squares_before(marks: &Marks, unit: usize) -> u64
+    requires { unit ≤ 20 }
+    ensures { result ≡ sum_by (λ a. numbers_of marks.now a unit * numbers_of marks.now a unit) (labels (unit - 1)) }
+{
+    (1..unit)
+        .map(|before| squared_mark(marks, before, unit))
+        .sum()
 }
 
 // The sum of the squared marks of all pairs.
@@ -37,11 +42,9 @@ fn squared_marks(marks: &Marks) -> u64
     ensures value { pos result ≡ sum_ℤ (λ q. square (pos (numbers_of marks.now q.0 q.1))) (pairs_in (labels (units_of marks.now))) }
     ensures low { result ≤ 40000000000 }
 {
-    let mut sum = 0;
-    for k in 0..marks.units() {
-        sum += squares_before(marks, k);
-    }
-    sum
+    (1..=marks.units())
+        .map(|unit| squares_before(marks, unit))
+        .sum()
 }
 
 // Writes the displacement of each unit of an order after the units before it, at the start of a list, and answers the sum of
@@ -55,8 +58,9 @@ fn displace(marks: &Marks, order: &[u8], list: &mut [i64]) -> u64
 {
     let mut placed = 0;
     let mut squares = 0;
+    // By index, since no fact tells what a list holds after a zip with its `iter_mut`.
     for (i, label) in order.iter().enumerate() {
-        let unit = *label as usize;
+        let unit = usize::from(*label);
         let far = marks.displacement(placed, unit);
         list[i] = far;
         squares += squared(far.unsigned_abs());
@@ -66,13 +70,12 @@ fn displace(marks: &Marks, order: &[u8], list: &mut [i64]) -> u64
 }
 
 // So many times one sum of squares, minus another.
-fn difference(units: usize, marks: u64, displaced: u64) -> i64
-    requires units { units ≤ 20 }
+fn difference(units: Units, marks: u64, displaced: u64) -> i64
     requires marks { marks ≤ 40000000000 }
     requires displaced { displaced ≤ 800000000000 }
-    ensures { result ≡ (pos units *ℤ pos marks) -ℤ pos displaced }
+    ensures { result ≡ (pos units.count *ℤ pos marks) -ℤ pos displaced }
 {
-    (units as u64 * marks) as i64 - displaced as i64
+    (units.count as u64 * marks) as i64 - displaced as i64
 }
 
 // The coordinates in n-ths of the order that a row begins with, of as many labels as there are units: writes the displacement
@@ -81,10 +84,10 @@ fn difference(units: usize, marks: u64, displaced: u64) -> i64
 pub fn coordinates(marks: &Marks, row: &[u8], list: &mut [i64]) -> Option<i64>
     ensures { Scales marks.now row.now list.old list.new result }
 {
-    let units = marks.units();
-    if list.len() < units || !is_order(row, units) {
+    if list.len() < marks.units() {
         return None;
     }
-    let displaced = displace(marks, &row[0..units], list);
-    Some(difference(units, squared_marks(marks), displaced))
+    let order = order_of(marks, row)?;
+    let displaced = displace(marks, order, list);
+    Some(difference(marks.size(), squared_marks(marks), displaced))
 }

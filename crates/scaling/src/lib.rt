@@ -3,3 +3,4 @@
 
 pub mod comparisons;
 pub mod coordinates;
+mod orders;

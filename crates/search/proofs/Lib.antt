@@ -1,8 +1,9 @@
 pub mod Parts
 pub mod Placing
 pub mod Cells
-pub mod Tables
+pub mod Filling
 pub mod Turns
-pub mod Reading
 pub mod Walking
 pub mod Found
+pub mod Ranges
+pub mod Stages

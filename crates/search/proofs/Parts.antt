@@ -3,12 +3,13 @@ use Rattle.std.proofs.Common.{◌≡◌, ℕ, zero, suc, ◌+◌, ◌-◌, ◌*�
 use native.Mathlib.Nat.{pow-succ'}
 use lib.Bits.{bit_and, and_step, and_le_r, and_shr, and_mod, and_zero_l}
 use Rattle.std.specs.List.{list_all}
+use Rattle.std.specs.Bool.{MatchBool}
 use Rattle.std.proofs.lemmas.Nat.{shr-shr}
 use Rattle.std.proofs.lemmas.Bool.{both_ways, cases_eq, eqb-true, eq-eqb}
 use Rattle.rules.specs.Units.{labels, has}
 use Rattle.rules.specs.Orders.{follows}
 use Rattle.rules.proofs.Tests.{or_then, then_or, refuted}
-use Rattle.rules.proofs.Sets.{label_low, label_from}
+use Rattle.rules.proofs.Sets.{label_low, label_high, label_from}
 use Rattle.rules.proofs.Members.{In, in_parts, all_of_in, in_all_of}
 use Rattle.rules.proofs.Ways.{label_in, in_label}
 use Rattle.search.specs.Parts.{part_of}
@@ -80,3 +81,10 @@ labels_more f m h e = in_all_of f (labels (suc m)) (λ x i. elim (in_parts x (la
 pub labels_fail : (f : ℕ → Bool) (n m : ℕ) → m < n → f (suc m) ≡ false → list_all f (labels n) ≡ false
 labels_fail f n m l e = refuted (list_all f (labels n)) (λ h. both_ways (f (suc m)) e
     (all_of_in f (labels n) h (suc m) (label_in n (suc m) (label_from n (suc m) (omega arith) (omega arith)))))
+
+-- the test of all labels, by what a search of them answers
+pub labels_all : (f : ℕ → Bool) (n : ℕ) (r : Bool)
+    → MatchBool r ((b : ℕ) → 1 ≤ b → b ≤ n → f b ≡ true) ((b : ℕ) × (1 ≤ b) × (b ≤ n) × (f b ≡ false)) → r ≡ list_all f (labels n)
+labels_all f n true h = sym (in_all_of f (labels n) (λ x i. let l = in_label n x i in h x (label_low n x l) (label_high n x l)))
+labels_all f n false h = sym (refuted (list_all f (labels n)) (λ e. both_ways (f h.0) h.3
+    (all_of_in f (labels n) e h.0 (label_in n h.0 (label_from n h.0 h.1 h.2)))))

@@ -37,20 +37,25 @@ turn_in c (j ∷ js) k h = go (ltb k (c j)) refl (turn_in c js (k - c j))
         let r = rec (omega arith) in
         (inr r.0, r.1)
 
-module _ (c : ℕ → ℕ) (n i k : ℕ) (l : i < n) where
-  turn_at : turn c (drop i (labels n)) k ≡ cond (ltb k (c (i + 1))) (i + 1, k) (turn c (drop (i + 1) (labels n)) (k - c (i + 1)))
-  turn_at = ap (λ js. turn c js k) (labels_from n i l)
+module _ (c : ℕ → ℕ) (n u k : ℕ) (lo : 1 ≤ u) (hi : u ≤ n) where
+  turn_at : turn c (drop (u - 1) (labels n)) k ≡ cond (ltb k (c u)) (u, k) (turn c (drop (u + 1 - 1) (labels n)) (k - c u))
+  turn_at =
+      let here : u - 1 + 1 ≡ u = omega arith in
+      let after : u - 1 + 1 ≡ u + 1 - 1 = omega arith in
+      ap (λ js. turn c js k) (labels_from n (u - 1) (omega arith) ∙ (λ i. here i ∷ drop (after i) (labels n)))
 
-  -- the place lies in the next label's part
-  pub turn_here : k < c (i + 1) → turn c (drop i (labels n)) k ≡ (i + 1, k)
-  turn_here h = turn_at ∙ ap (λ b. cond b (i + 1, k) (turn c (drop (i + 1) (labels n)) (k - c (i + 1)))) (lt-ltb k (c (i + 1)) h)
+  -- the place lies in the part of the label u
+  pub turn_here : k < c u → turn c (drop (u - 1) (labels n)) k ≡ (u, k)
+  turn_here h = turn_at ∙ ap (λ b. cond b (u, k) (turn c (drop (u + 1 - 1) (labels n)) (k - c u))) (lt-ltb k (c u) h)
 
   -- or it is passed over
-  pub turn_past : c (i + 1) ≤ k → turn c (drop i (labels n)) k ≡ turn c (drop (i + 1) (labels n)) (k - c (i + 1))
-  turn_past h = turn_at ∙ ap (λ b. cond b (i + 1, k) (turn c (drop (i + 1) (labels n)) (k - c (i + 1)))) (le-ltb k (c (i + 1)) h)
+  pub turn_past : {w : ℕ} → w ≡ c u → w ≤ k → turn c (drop (u - 1) (labels n)) k ≡ turn c (drop (u + 1 - 1) (labels n)) (k - w)
+  turn_past {w} e h =
+      turn_at ∙ ap (λ b. cond b (u, k) (turn c (drop (u + 1 - 1) (labels n)) (k - c u))) (le-ltb k (c u) (omega arith))
+      ∙ ap (λ (q : ℕ). turn c (drop (u + 1 - 1) (labels n)) (k - q)) (sym e)
 
 -- no label is left
-pub turn_end : (c : ℕ → ℕ) (n i k : ℕ) → n ≤ i → i ≤ n → turn c (drop i (labels n)) k ≡ (0, k)
-turn_end c n i k l h =
+pub turn_end : (c : ℕ → ℕ) (n i k : ℕ) → i ≡ n → turn c (drop i (labels n)) k ≡ (0, k)
+turn_end c n i k h =
     let e : i ≡ length (labels n) = omega (arith, labels_length n) in
     ap (λ js. turn c js k) (ap (λ (q : ℕ). drop q (labels n)) e ∙ drop-length (labels n))

@@ -1,5 +1,5 @@
 -- The listed order with a number, written unit by unit.
-use Rattle.std.proofs.Common.{◌≡◌, ℕ, suc, ◌+◌, ◌-◌, ◌^◌, ◌<◌, ◌≤◌, true, false, List, [], ◌∷◌, ◌++◌, length, take, drop, set, sym, refl, ap, ◌∙◌, subst, append_assoc, append-nil, add-one, arith, take-append-drop, take-suc-set, drop-set-lt}
+use Rattle.std.proofs.Common.{◌≡◌, ℕ, suc, ◌+◌, ◌-◌, ◌^◌, ◌<◌, ◌≤◌, true, false, List, [], ◌∷◌, ◌++◌, length, take, set, sym, ap, ◌∙◌, subst, subst₂, append_assoc, append-nil, add-one, arith, take-suc-set, take_all}
 use Rattle.std.proofs.lemmas.Nat.{pow_pos}
 use Rattle.std.proofs.lemmas.Bool.{cond_both, cond-true}
 use Rattle.rules.specs.Units.{label, has, with_unit, size}
@@ -20,16 +20,15 @@ use Rattle.marks.proofs.Laws.{least, most, low, symmetric}
 use Rattle.search.specs.Above.{Sound}
 use Rattle.search.specs.Listing.{ways_count, next_turn, listed_order}
 use Rattle.search.proofs.Turns.{turn_in}
-use Rattle.search.proofs.Cells as cells
+use Rattle.search.proofs.Placing.{put, put_is}
 
 -- i units are written, which make the set A; the rest is the way with the number k after A
-pub record Walked (y : Merit) (m : Marks) (t : Ties) (which : ℕ) (old : List ℕ) (i A k : ℕ) (row : List ℕ) : Type 0 where
+pub record Walked (y : Merit) (m : Marks) (t : Ties) (which i A k : ℕ) (row : List ℕ) : Type 0 where
   pub below : A < 2 ^ units_of m
   pub is_closed : closed (tied_of t) (units_of m) A ≡ true
   pub placed : size (units_of m) A ≡ i
   pub left : k < ways_count y m t A
   pub so_far : take i row ++ walk y (numbers_of m) (tied_of t) (units_of m) (units_of m - i) A k ≡ listed_order y m t which
-  pub rest : drop (units_of m) row ≡ drop (units_of m) old
 
 module _ {y : Merit} {m : Marks} {t : Ties} (law : Lawful y) (sound : Sound m t) where
   searches : Searches y (numbers_of m) (tied_of t) (units_of m)
@@ -42,8 +41,8 @@ module _ {y : Merit} {m : Marks} {t : Ties} (law : Lawful y) (sound : Sound m t)
   count_is A c = cond-true (closed (tied_of t) (units_of m) A) (length (listed y (numbers_of m) (tied_of t) (units_of m) A)) 0 c
 
   -- no unit is written yet
-  pub none_yet : {which : ℕ} {old : List ℕ} → which < ways_count y m t 0 → Walked y m t which old 0 0 which old
-  none_yet {which} {old} h = record {
+  pub none_yet : {which : ℕ} {row : List ℕ} → which < ways_count y m t 0 → Walked y m t which 0 0 which row
+  none_yet {which} h = record {
     below = pow_pos (units_of m);
     is_closed = c;
     placed = size_none (units_of m);
@@ -51,13 +50,12 @@ module _ {y : Merit} {m : Marks} {t : Ties} (law : Lawful y) (sound : Sound m t)
     so_far =
         let e : units_of m - 0 ≡ units_of m - size (units_of m) 0 = omega (arith, size_none (units_of m)) in
         ap (λ (q : ℕ). walk_on q 0 which) e ∙ sym (searches.walked 0 which (pow_pos (units_of m)) (subst (λ (q : ℕ). which < q) (count_is 0 c) h));
-    rest = refl;
   }
     where
       c : closed (tied_of t) (units_of m) 0 ≡ true
       c = closed_none (tied_of t) (units_of m)
 
-  module _ {which i A k : ℕ} {old row : List ℕ} (w : Walked y m t which old i A k row) (lt : i < units_of m) where
+  module _ {which i A k : ℕ} {row : List ℕ} (w : Walked y m t which i A k row) (lt : i < units_of m) where
     abbrev turned : ℕ × ℕ
     turned = next_turn y m t A k
 
@@ -82,8 +80,8 @@ module _ {y : Merit} {m : Marks} {t : Ties} (law : Lawful y) (sound : Sound m t)
     pub next_low : next ≤ 20
     next_low = omega (arith, label_high (units_of m) next is_label, most m)
 
-    pub next_fits : (label 32 next ≡ true) × (with_unit A next < 2 ^ 32)
-    next_fits = cells.next_fits (record { law = law; sound = sound; below = w.below; shut = w.is_closed }) (record { unit = is_label; free = is_ready })
+    put_to : {r : ℕ} → r ≡ put A next → with_unit A next ≡ r
+    put_to e = sym (e ∙ put_is (units_of m) A next (most m) is_label outside)
 
     next_left : turned.1 < ways_count y m t (with_unit A next)
     next_left =
@@ -92,8 +90,8 @@ module _ {y : Merit} {m : Marks} {t : Ties} (law : Lawful y) (sound : Sound m t)
         0 (ways_count y m t (with_unit A next)) (λ (q : ℕ). turned.1 < q → turned.1 < ways_count y m t (with_unit A next))
         (λ _ h. absurd (omega arith)) (λ _ h. h) c
 
-    pub one_more : i < length row → Walked y m t which old (i + 1) (with_unit A next) turned.1 (set row i next)
-    one_more l = subst (λ (q : ℕ). Walked y m t which old q (with_unit A next) turned.1 (set row i next)) (sym (add-one i)) (record {
+    one_more : i < length row → Walked y m t which (suc i) (with_unit A next) turned.1 (set row i next)
+    one_more l = record {
       below = with_below (units_of m) A next is_label w.below outside;
       is_closed = closed_with (tied_of t) (units_of m) A next w.is_closed is_label is_ready;
       placed = size_with (units_of m) A next is_label outside ∙ ap suc w.placed;
@@ -102,8 +100,7 @@ module _ {y : Merit} {m : Marks} {t : Ties} (law : Lawful y) (sound : Sound m t)
           ap (λ (r : List ℕ). r ++ walk_on (units_of m - suc i) (with_unit A next) turned.1) (take-suc-set row i next l)
           ∙ (append_assoc (take i row) (next ∷ []) (walk_on (units_of m - suc i) (with_unit A next) turned.1)
           ∙ (ap (λ (r : List ℕ). take i row ++ r) (sym step) ∙ w.so_far));
-      rest = drop-set-lt (units_of m) row i next lt ∙ w.rest;
-    })
+    }
       where
         step : walk_on (units_of m - i) A k ≡ next ∷ walk_on (units_of m - suc i) (with_unit A next) turned.1
         step =
@@ -111,15 +108,15 @@ module _ {y : Merit} {m : Marks} {t : Ties} (law : Lawful y) (sound : Sound m t)
             ap (λ (q : ℕ). walk_on q A k) e
             ∙ ap (λ (v : ℕ × ℕ). v.0 ∷ walk_on (units_of m - suc i) (with_unit A v.0) v.1) (searches.turn_next A k w.is_closed)
 
+    -- as the code has it
+    pub step_on : {v : ℕ × ℕ} {r : ℕ} → i < length row → v ≡ turned → r ≡ put A v.0 → Walked y m t which (i + 1) r v.1 (set row i v.0)
+    step_on {v} {r} l e f =
+        let q : put A v.0 ≡ put A next = ap (λ (z : ℕ × ℕ). put A z.0) e in
+        rw add-one (subst₂ (λ (z : ℕ × ℕ) (B : ℕ). Walked y m t which (suc i) B z.1 (set row i z.0)) (sym e) (put_to (f ∙ q)) (one_more l))
+
   -- all units are written
-  pub all_written : {which i A k : ℕ} {old row : List ℕ} → Walked y m t which old i A k row → i ≡ units_of m
-      → row ≡ listed_order y m t which ++ drop (units_of m) old
-  all_written {which} {i} {A} {k} {old} {row} w e =
-      sym (take-append-drop (units_of m) row)
-      ∙ (λ j. whole j ++ w.rest j)
-    where
-      whole : take (units_of m) row ≡ listed_order y m t which
-      whole =
-          let z : units_of m - i ≡ 0 = omega arith in
-          sym (append-nil (take (units_of m) row))
-          ∙ ((λ j. take (sym e j) row ++ walk_on (sym z j) A k) ∙ w.so_far)
+  pub all_written : {which i A k : ℕ} {row : List ℕ} → Walked y m t which i A k row → i ≡ units_of m → length row ≡ units_of m
+      → row ≡ listed_order y m t which
+  all_written {which} {i} {A} {k} {row} w e l =
+      let z : units_of m - i ≡ 0 = omega arith in
+      sym (take_all i row (omega arith)) ∙ sym (append-nil (take i row)) ∙ ap (λ (q : ℕ). take i row ++ walk_on q A k) (sym z) ∙ w.so_far

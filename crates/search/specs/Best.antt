@@ -1,5 +1,5 @@
 -- What a search over sets answers, and what it leaves in the tables and the row.
-use Rattle.std.specs.Prelude.{◌≡◌, ℕ, ◌-◌, ◌^◌, Bool, cond, ◌&&◌, ◌||◌, List, ◌++◌, length, drop, ℤ, Some, None, Option, Result, MatchResult, ◌==◌, nat_le, nat_lt}
+use Rattle.std.specs.Prelude.{◌≡◌, ℕ, ◌-◌, ◌^◌, Bool, false, cond, ◌&&◌, ◌||◌, List, ◌++◌, length, drop, ℤ, Some, None, Option, Result, MatchResult, ◌==◌, nat_le, nat_lt}
 use Rattle.rules.specs.Orders.{circular}
 use Rattle.rules.specs.Yardsticks.{Merit}
 use Rattle.rules.specs.Ranking.{best, listed}
@@ -8,6 +8,7 @@ use Rattle.marks.specs.declared.ties.Ties.{Ties}
 use Rattle.marks.specs.Numbers.{units_of, numbers_of}
 use Rattle.marks.specs.Tied.{tied_units, tied_of}
 use Rattle.search.specs.declared.best.SearchFault.{SearchFault}
+use Rattle.search.specs.declared.tables.Sheet.{Sheet}
 use Rattle.search.specs.declared.best.SearchFault.TheVariants.{Units, Short, Circle, Number}
 use Rattle.search.specs.Tables.{Filled}
 use Rattle.search.specs.Listing.{listed_order}
@@ -24,6 +25,13 @@ numbered count k = nat_le 1 k && nat_le k count
 abbrev pub first_fault : Bool → Bool → Bool → Bool → Option SearchFault
 first_fault same little circle number =
     cond same (cond little (Some Short) (cond circle (Some Circle) (cond number None (Some Number)))) (Some Units)
+
+-- the sheet of m and t, where there is room for it; or the first of the three faults that leave the number open
+abbrev pub Admits : Marks → Ties → ℕ → ℕ → ℕ → Result Sheet SearchFault → Type 0
+Admits m t totals counts row r =
+    MatchResult r (λ s. (s.marks.now ≡ m) × (s.ties.now ≡ t) × (short (units_of s.marks.now) totals counts row ≡ false))
+    (λ f. (number : Bool)
+    → first_fault (tied_units t == units_of m) (short (units_of m) totals counts row) (circular (tied_of t) (units_of m)) number ≡ Some f)
 
 -- what the caller lends: the table of totals, the table of counts, and the row
 pub record Lent (T : Type 0) : Type 0 where

@@ -1,11 +1,11 @@
 // The greatest total, how many tie-keeping orders reach it, and any of them by its number in label order.
 ghost use Rattle.std.specs.Prelude.{◌≡◌, ◌≤◌, ◌||◌, nat_lt};
 ghost use Rattle.yardsticks.specs.Merits.{merit_of};
-ghost use Rattle.search.specs.Best.{short, numbered, Searches};
+ghost use Rattle.search.specs.Best.{short, numbered, Admits, Searches};
 
 use crate::circle::has_order;
-use crate::fill::{fill, set_count};
-use crate::list::nth;
+use crate::fill::fill;
+use crate::tables::{Sheet, Tables};
 use marks::marks::Marks;
 use marks::ties::Ties;
 use yardsticks::yardstick::Yardstick;
@@ -23,27 +23,45 @@ pub enum SearchFault {
     Number,
 }
 
-// Whether the tables have too few cells or the row too few places.
-fn is_short(units: usize, totals: usize, counts: usize, row: usize) -> bool
-    requires { units ≤ 20 }
-    ensures { result ≡ short units totals counts row }
-{
-    let sets = set_count(units);
-    totals < sets || counts < sets || row < units
-}
-
-// The same for any number of units; nothing is enough for more than 20.
+// Whether tables have fewer cells than there are sets of units, or a row fewer places than units; nothing is enough for
+// more than 20.
 pub fn lacks_room(units: usize, totals: usize, counts: usize, row: usize) -> bool
     ensures { result ≡ (nat_lt 20 units || short units totals counts row) }
 {
-    units > 20 || is_short(units, totals, counts, row)
+    if units > 20 {
+        return true;
+    }
+    let sets = 1 << units;
+    totals < sets || counts < sets || row < units
 }
 
 // Whether k is a number from 1 to the count.
 fn is_numbered(count: u64, k: u64) -> bool
     ensures { result ≡ numbered count k }
 {
-    1 <= k && k <= count
+    (1..=count).contains(&k)
+}
+
+// The sheet of marks and ties; none unless they are of the same units, the room is enough and there is no circle.
+fn sheet_of<'a>(
+    marks: &'a Marks,
+    ties: &'a Ties,
+    totals: usize,
+    counts: usize,
+    row: usize,
+) -> Result<Sheet<'a>, SearchFault>
+    ensures { Admits marks.now ties.now totals counts row result }
+{
+    if ties.units() != marks.units() {
+        return Err(SearchFault::Units);
+    }
+    if lacks_room(marks.units(), totals, counts, row) {
+        return Err(SearchFault::Short);
+    }
+    if !has_order(ties) {
+        return Err(SearchFault::Circle);
+    }
+    Ok(Sheet { marks, ties })
 }
 
 // Answers the greatest total and the count, and writes the k-th best order, k from 1, at the start of the row. The tables
@@ -58,21 +76,17 @@ pub fn best<Y: Yardstick>(
 ) -> Result<(Y::Total, u64), SearchFault>
     ensures { Searches Y.Yardstick.numbers (merit_of Y.Yardstick) marks.now ties.now k (record { totals = totals.old; counts = counts.old; row = row.old }) (record { totals = totals.new; counts = counts.new; row = row.new }) result }
 {
-    let units = marks.units();
-    if ties.units() != units {
-        return Err(SearchFault::Units);
-    }
-    if is_short(units, totals.len(), counts.len(), row.len()) {
-        return Err(SearchFault::Short);
-    }
-    if !has_order(ties) {
-        return Err(SearchFault::Circle);
-    }
-    fill::<Y>(marks, ties, totals, counts);
+    let sheet = sheet_of(marks, ties, totals.len(), counts.len(), row.len())?;
+    fill::<Y>(sheet, totals, counts);
     let count = counts[0];
     if !is_numbered(count, k) {
         return Err(SearchFault::Number);
     }
-    nth::<Y>(marks, ties, totals, counts, k, row);
+    let tables = Tables::<Y> {
+        sheet,
+        totals,
+        counts,
+    };
+    tables.nth(k, &mut row[..sheet.marks.units()]);
     Ok((totals[0], count))
 }

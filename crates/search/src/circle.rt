@@ -5,19 +5,15 @@ ghost use Rattle.rules.specs.Recurrence.{placeable};
 ghost use Rattle.marks.specs.Tied.{tied_units, tied_of};
 ghost use Rattle.search.specs.Parts.{FirstReady};
 
-use crate::sets::{ready, with_unit};
+use crate::sets::ready;
+use marks::sets::with_unit;
 use marks::ties::Ties;
 
 // The first unit that may come next after a set.
 fn first_ready(ties: &Ties, set: u32) -> Option<usize>
     ensures { FirstReady (ready_units (tied_of ties.now) (tied_units ties.now) set) result }
 {
-    for i in 0..ties.units() {
-        if ready(ties, set, i + 1) {
-            return Some(i + 1);
-        }
-    }
-    None
+    (1..=ties.units()).find(|unit| ready(ties, set, *unit))
 }
 
 // Places ready units until all are placed or none is ready.
@@ -27,15 +23,11 @@ pub fn has_order(ties: &Ties) -> bool
     ensures circle { result ≡ not (circular (tied_of ties.now) (tied_units ties.now)) }
 {
     let mut placed = 0;
-    for i in 0..ties.units() {
-        match first_ready(ties, placed) {
-            Some(unit) => {
-                placed = with_unit(placed, unit);
-            }
-            None => {
-                return false;
-            }
-        }
+    for _ in 0..ties.units() {
+        let Some(unit) = first_ready(ties, placed) else {
+            return false;
+        };
+        placed = with_unit(placed, unit);
     }
     true
 }

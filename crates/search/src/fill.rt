@@ -1,105 +1,53 @@
 // The tables over sets: for each closed set the greatest total of the remaining steps over all tie-keeping ways to place
 // the rest, and how many ways reach it. They are filled from the full set down to the empty one.
-ghost use Rattle.std.specs.Prelude.{◌≡◌, ◌+◌, ◌^◌, ◌<◌, ◌≤◌, true, length, drop};
-ghost use Rattle.rules.specs.Orders.{closed};
-ghost use Rattle.rules.specs.Ranking.{total_cell, count_cell};
+ghost use Rattle.std.specs.Prelude.{◌≡◌, ◌+◌, ◌^◌, ◌<◌, ◌≤◌, length, drop};
 ghost use Rattle.marks.specs.Numbers.{units_of, numbers_of};
 ghost use Rattle.marks.specs.Tied.{tied_of};
 ghost use Rattle.yardsticks.specs.Merits.{merit_of};
 ghost use Rattle.search.specs.Tables.{Filled};
-ghost use Rattle.search.specs.Above.{FilledFrom, Sound, Room};
+ghost use Rattle.search.specs.Above.{FilledFrom, Room, CellOf};
 
-use crate::sets::{closed, ready, with_unit};
-use marks::marks::Marks;
-use marks::ties::Ties;
+use crate::sets::closed;
+use crate::tables::{Sheet, Stage, Tables};
+use marks::units::Units;
 use yardsticks::yardstick::Yardstick;
 
-// The cell of a closed set, from the cells of the sets with one unit more.
-fn greatest<Y: Yardstick>(
-    marks: &Marks,
-    ties: &Ties,
-    placed: u32,
-    totals: &[Y::Total],
-    counts: &[u64],
-) -> (Y::Total, u64)
-    requires sound { Sound marks.now ties.now }
-    requires within { placed < 2 ^ units_of marks.now }
-    requires room { Room (units_of marks.now) totals.now counts.now }
-    requires above { FilledFrom Y.Yardstick.numbers (merit_of Y.Yardstick) (numbers_of marks.now) (tied_of ties.now) (units_of marks.now) (placed + 1) totals.now counts.now }
-    requires shut { closed (tied_of ties.now) (units_of marks.now) placed ≡ true }
-    ensures total { Y.Yardstick.numbers result.0 ≡ total_cell (merit_of Y.Yardstick) (numbers_of marks.now) (tied_of ties.now) (units_of marks.now) placed }
-    ensures count { result.1 ≡ count_cell (merit_of Y.Yardstick) (numbers_of marks.now) (tied_of ties.now) (units_of marks.now) placed }
-{
-    let mut found = false;
-    let mut best = Y::zero();
-    let mut count = 0u64;
-    for i in 0..marks.units() {
-        if ready(ties, placed, i + 1) {
-            let next = with_unit(placed, i + 1) as usize;
-            let more = counts[next];
-            let total = Y::add(Y::step(marks, placed, i + 1), totals[next]);
-            if !found {
-                found = true;
-                best = total;
-                count = more;
-            } else if Y::exceeds(total, best) {
-                best = total;
-                count = more;
-            } else if !Y::exceeds(best, total) {
-                count += more;
-            }
-        }
-    }
-    if found { (best, count) } else { (best, 1) }
-}
-
 // The cell of a set: the zero total and 0 for a set that is not closed.
-fn cell<Y: Yardstick>(
-    marks: &Marks,
-    ties: &Ties,
-    placed: u32,
-    totals: &[Y::Total],
-    counts: &[u64],
-) -> (Y::Total, u64)
-    requires sound { Sound marks.now ties.now }
-    requires within { placed < 2 ^ units_of marks.now }
-    requires room { Room (units_of marks.now) totals.now counts.now }
-    requires above { FilledFrom Y.Yardstick.numbers (merit_of Y.Yardstick) (numbers_of marks.now) (tied_of ties.now) (units_of marks.now) (placed + 1) totals.now counts.now }
-    ensures total { Y.Yardstick.numbers result.0 ≡ total_cell (merit_of Y.Yardstick) (numbers_of marks.now) (tied_of ties.now) (units_of marks.now) placed }
-    ensures count { result.1 ≡ count_cell (merit_of Y.Yardstick) (numbers_of marks.now) (tied_of ties.now) (units_of marks.now) placed }
+fn cell<Y: Yardstick>(tables: Tables<Y>, placed: u32) -> (Y::Total, u64)
+    requires within { placed < 2 ^ units_of tables.sheet.marks.now }
+    requires above { FilledFrom Y.Yardstick.numbers (merit_of Y.Yardstick) (numbers_of tables.sheet.marks.now) (tied_of tables.sheet.ties.now) (units_of tables.sheet.marks.now) (placed + 1) tables.totals.now tables.counts.now }
+    ensures { CellOf Y.Yardstick.numbers (merit_of Y.Yardstick) tables.entry.sheet.marks.now tables.entry.sheet.ties.now placed result }
 {
-    if closed(ties, placed) {
-        greatest::<Y>(marks, ties, placed, totals, counts)
+    if closed(tables.sheet.ties, placed) {
+        Stage::<Y> { tables, placed }.cell()
     } else {
         (Y::zero(), 0)
     }
 }
 
 // How many sets of units there are.
-pub(crate) fn set_count(units: usize) -> usize
-    requires { units ≤ 20 }
-    ensures { result ≡ 2 ^ units }
+fn set_count(units: Units) -> usize
+    ensures { result ≡ 2 ^ units.count }
 {
-    1 << units
+    1 << units.count()
 }
 
 // Fills the cells of all sets; cells past them stay.
-pub(crate) fn fill<Y: Yardstick>(
-    marks: &Marks,
-    ties: &Ties,
-    totals: &mut [Y::Total],
-    counts: &mut [u64],
-)
-    requires sound { Sound marks.now ties.now }
-    requires room { Room (units_of marks.now) totals.old counts.old }
-    ensures filled { Filled Y.Yardstick.numbers (merit_of Y.Yardstick) (numbers_of marks.now) (tied_of ties.now) (units_of marks.now) totals.new counts.new }
-    ensures totals_past { drop (2 ^ units_of marks.now) totals.new ≡ drop (2 ^ units_of marks.now) totals.old }
-    ensures counts_past { drop (2 ^ units_of marks.now) counts.new ≡ drop (2 ^ units_of marks.now) counts.old }
+pub(crate) fn fill<Y: Yardstick>(sheet: Sheet, totals: &mut [Y::Total], counts: &mut [u64])
+    requires { Room (units_of sheet.marks.now) totals.old counts.old }
+    ensures filled { Filled Y.Yardstick.numbers (merit_of Y.Yardstick) (numbers_of sheet.entry.marks.now) (tied_of sheet.entry.ties.now) (units_of sheet.entry.marks.now) totals.new counts.new }
+    ensures totals_past { drop (2 ^ units_of sheet.entry.marks.now) totals.new ≡ drop (2 ^ units_of sheet.entry.marks.now) totals.old }
+    ensures counts_past { drop (2 ^ units_of sheet.entry.marks.now) counts.new ≡ drop (2 ^ units_of sheet.entry.marks.now) counts.old }
     ensures lengths { (length totals.new ≡ length totals.old) × (length counts.new ≡ length counts.old) }
 {
-    for a in (0..set_count(marks.units())).rev() {
-        let (total, count) = cell::<Y>(marks, ties, a as u32, totals, counts);
-        totals[a] = total;
-        counts[a] = count;
+    for set in (0..set_count(sheet.marks.size())).rev() {
+        let tables = Tables::<Y> {
+            sheet,
+            totals,
+            counts,
+        };
+        let (total, count) = cell(tables, set as u32);
+        totals[set] = total;
+        counts[set] = count;
     }
 }

@@ -7,3 +7,4 @@ pub mod circle;
 mod fill;
 mod list;
 mod sets;
+mod tables;

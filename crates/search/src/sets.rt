@@ -1,20 +1,11 @@
 // Sets of units and the ties: what may come next after a set, and which sets are closed.
-ghost use Rattle.std.specs.Prelude.{◌≡◌, ℕ, ◌^◌, ◌<◌, true};
-ghost use Rattle.rules.specs.Units.{label, with_unit};
+ghost use Rattle.std.specs.Prelude.{◌≡◌, ℕ, ◌^◌, ◌<◌};
 ghost use Rattle.rules.specs.Orders.{follows, closed, ready};
 ghost use Rattle.marks.specs.Tied.{tied_units, tied_of};
 ghost use Rattle.search.specs.Parts.{part_of};
 
 use marks::sets::has;
 use marks::ties::Ties;
-
-// A set with a unit that it does not have.
-pub(crate) fn with_unit(placed: u32, unit: usize) -> u32
-    requires { (label 32 unit ≡ true) × (with_unit placed unit < 2 ^ 32) }
-    ensures { result ≡ with_unit placed unit }
-{
-    placed + (1 << (unit - 1))
-}
 
 // Whether all units of one set are in another.
 fn within(part: u32, set: u32) -> bool
@@ -41,10 +32,5 @@ pub(crate) fn ready(ties: &Ties, set: u32, unit: usize) -> bool
 pub(crate) fn closed(ties: &Ties, set: u32) -> bool
     ensures { result ≡ closed (tied_of ties.now) (tied_units ties.now) set }
 {
-    for i in 0..ties.units() {
-        if has(set, i + 1) && !follows(ties, set, i + 1) {
-            return false;
-        }
-    }
-    true
+    (0..ties.units()).all(|i| !has(set, i + 1) || follows(ties, set, i + 1))
 }

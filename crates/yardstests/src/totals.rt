@@ -6,6 +6,10 @@ use yardsticks::spread::Spread;
 use yardsticks::target::Target;
 use yardsticks::total::total;
 
+fn grades(signs: i32, rises: i32) -> Grades {
+    Grades { signs, rises }
+}
+
 #[test]
 fn spread(rt: HostRuntime) -> Result<(), Fail> {
     let marks = three(2, 7, 4)?;
@@ -14,17 +18,27 @@ fn spread(rt: HostRuntime) -> Result<(), Fail> {
     Ok(())
 }
 
-// A gradient total.
-fn grades(signs: i32, rises: i32) -> Option<Grades> {
-    Some(Grades { signs, rises })
-}
-
 #[test]
 fn gradients(rt: HostRuntime) -> Result<(), Fail> {
     let marks = three(2, 7, 4)?;
-    assert_eq!(rt; total::<Gradient>(&marks, &[1, 3, 2]), grades(-2, -7));
-    assert_eq!(rt; total::<Gradient>(&marks, &[1, 2, 3]), grades(2, 8));
-    assert_eq!(rt; total::<Gradient>(&marks, &[2, 1, 3]), grades(0, -1));
+    assert_eq!(rt; total::<Gradient>(&marks, &[1, 3, 2]), Some(grades(-2, -7)));
+    assert_eq!(rt; total::<Gradient>(&marks, &[1, 2, 3]), Some(grades(2, 8)));
+    assert_eq!(rt; total::<Gradient>(&marks, &[2, 1, 3]), Some(grades(0, -1)));
+    Ok(())
+}
+
+#[test]
+fn grades_compared_and_printed(rt: HostRuntime) -> Result<(), Fail> {
+    assert!(rt; grades(2, 8) > grades(0, 9));
+    assert!(rt; grades(0, 9) > grades(0, -1));
+    let first = Grades { signs: 2, rises: 8 };
+    let second = Grades {
+        signs: -4,
+        rises: -15,
+    };
+    assert_eq!(rt; first + second, grades(-2, -7));
+    let text = format!(in rt.alloc(); "{}", grades(-2, -7))?;
+    assert_eq!(rt; text.as_str(), "-2,-7");
     Ok(())
 }
 

@@ -4,6 +4,7 @@ use Rattle.marks.specs.declared.marks.Marks.{Marks}
 use Rattle.marks.specs.Numbers.{units_of, numbers_of}
 use Rattle.rules.specs.Units.{labels, has, sum_ℤ}
 use Rattle.rules.specs.Yardsticks.{sign_ℤ}
+use Rattle.yardsticks.specs.declared.gradient.Grades.{Grades}
 
 -- the marks of the unit j, one for each label
 abbrev pub RowOf : Marks → ℕ → List ℕ → Type 0
@@ -16,6 +17,10 @@ signs_of ik ij jk = sign_ℤ (pos ik -ℤ pos ij) +ℤ sign_ℤ (pos ik -ℤ pos
 -- and the differences themselves
 abbrev pub rises_of : ℕ → ℕ → ℕ → ℤ
 rises_of ik ij jk = (pos ik -ℤ pos ij) +ℤ (pos ik -ℤ pos jk)
+
+-- the signs and the rises of a grade are one and the same sum, of the signs and of the differences
+abbrev pub Graded : ((ℕ → ℕ → ℕ → ℤ) → ℤ) → Grades → Type 0
+Graded sum g = (g.signs ≡ sum signs_of) × (g.rises ≡ sum rises_of)
 
 -- one of the two for i and k
 abbrev pub at : (ℕ → ℕ → ℕ → ℤ) → (ℕ → ℕ → ℕ) → ℕ → ℕ → ℕ → ℤ

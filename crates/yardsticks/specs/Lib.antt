@@ -1,5 +1,5 @@
 pub mod Merits
 pub mod Members
 pub mod Gradients
-pub mod Totals
 pub mod Printed
+pub mod Totals

@@ -1,9 +1,11 @@
 // Gradient: for each unit before and each unit after the one that is placed, whether their mark is above its marks to
 // them, and by how much.
-ghost use Rattle.std.specs.Prelude.{◌≡◌, ◌≤◌, [], ◌∷◌, pos, ◌-ℤ◌, unsigned_abs, Some};
-ghost use Rattle.rules.specs.Yardsticks.{gradient, sign_ℤ};
+ghost use Rattle.std.specs.Prelude.{◌≡◌, [], ◌∷◌, pos, ◌+ℤ◌, ◌-ℤ◌, Some, FitsSigned};
+ghost use Rattle.std.specs.Int.{w32};
+ghost use Rattle.rules.specs.Units.{labels, sum_ℤ};
+ghost use Rattle.rules.specs.Yardsticks.{gradient};
 ghost use Rattle.marks.specs.Numbers.{units_of, numbers_of};
-ghost use Rattle.yardsticks.specs.Gradients.{RowOf, signs_of, rises_of, at, later, beyond, past, behind};
+ghost use Rattle.yardsticks.specs.Gradients.{RowOf, Graded, signs_of, rises_of, at, later, beyond, past, behind};
 ghost use Rattle.yardsticks.specs.Printed.{written};
 ghost use Rattle.rules.proofs.Lawfulness.{yardsticks_lawful};
 ghost use Rattle.std.proofs.Common.{rules};
@@ -12,12 +14,30 @@ use crate::yardstick::Yardstick;
 use marks::marks::Marks;
 use marks::sets::has;
 use std::fmt;
+use std::ops::Add;
 
-// The numbers of a gradient total: signs, and differences of marks.
-#[derive(Clone, Copy, PartialEq, Eq, PartialOrd, Ord, Debug)]
+// The numbers of a gradient total: signs, and differences of marks. Totals are compared by signs, then by rises.
+#[derive(Clone, Copy, Debug, PartialEq, Eq, PartialOrd, Ord)]
 pub struct Grades {
     pub signs: i32,
     pub rises: i32,
+}
+
+const NONE: Grades = Grades { signs: 0, rises: 0 };
+
+impl Add for Grades {
+    type Output = Grades;
+
+    ghost can_add = { λ s t. FitsSigned w32 (s.signs +ℤ t.signs) × FitsSigned w32 (s.rises +ℤ t.rises) };
+
+    ghost add_gives = { λ s t r. (r.signs ≡ s.signs +ℤ t.signs) × (r.rises ≡ s.rises +ℤ t.rises) };
+
+    fn add(self, more: Grades) -> Grades {
+        Grades {
+            signs: self.signs + more.signs,
+            rises: self.rises + more.rises,
+        }
+    }
 }
 
 // The signs, a comma and the rises.
@@ -30,24 +50,6 @@ impl fmt::Display for Grades {
     }
 }
 
-const NONE: Grades = Grades { signs: 0, rises: 0 };
-
-pub struct Gradient;
-
-// The sign of a number.
-fn sign(x: i32) -> i32
-    ensures value { result ≡ sign_ℤ x }
-    ensures small { unsigned_abs result ≤ 1 }
-{
-    if x > 0 {
-        1
-    } else if x < 0 {
-        -1
-    } else {
-        0
-    }
-}
-
 // What one mark is above another.
 fn rise(outer: u16, inner: u16) -> i32
     ensures { result ≡ pos outer -ℤ pos inner }
@@ -57,44 +59,13 @@ fn rise(outer: u16, inner: u16) -> i32
 
 // What the marks of an earlier and a later unit, of the earlier one and this one, and of this one and the later one add.
 fn compared(outer: u16, left: u16, right: u16) -> Grades
-    ensures signs { result.signs ≡ signs_of outer left right }
-    ensures rises { result.rises ≡ rises_of outer left right }
+    ensures { Graded (λ f. f outer left right) result }
 {
     let first = rise(outer, left);
     let second = rise(outer, right);
     Grades {
-        signs: sign(first) + sign(second),
+        signs: first.signum() + second.signum(),
         rises: first + second,
-    }
-}
-
-// Whether k comes later: it is not placed, and is other than the unit that is placed now.
-fn comes_later(placed: u32, unit: usize, k: usize) -> bool
-    ensures { result ≡ later placed unit k }
-{
-    !has(placed, k) && k != unit
-}
-
-// What k adds for the earlier unit i: nothing if k does not come later. `left` is the mark of i and this unit, `right`
-// that of this unit and k.
-fn beyond(
-    marks: &Marks,
-    placed: u32,
-    unit: usize,
-    i: usize,
-    left: u16,
-    k: usize,
-    right: u16,
-) -> Grades
-    requires { (left ≡ numbers_of marks.now i unit) × (right ≡ numbers_of marks.now unit k) }
-    ensures signs { result.signs ≡ beyond (at signs_of (numbers_of marks.now) unit i) placed unit k }
-    ensures rises { result.rises ≡ beyond (at rises_of (numbers_of marks.now) unit i) placed unit k }
-    ensures few { (unsigned_abs result.signs ≤ 2) × (unsigned_abs result.rises ≤ 20000) }
-{
-    if comes_later(placed, unit, k) {
-        compared(marks.mark(i, k), left, right)
-    } else {
-        NONE
     }
 }
 
@@ -103,42 +74,59 @@ fn row_of(marks: &Marks, unit: usize) -> [u16; 20]
     ensures { RowOf marks.now unit result }
 {
     let mut row = [0; 20];
-    for k in 0..marks.units() {
-        row[k] = marks.mark(unit, k + 1);
+    for (k, mark) in row[..marks.units()].iter_mut().enumerate() {
+        *mark = marks.mark(unit, k + 1);
     }
     row
 }
 
-// What all later units add for the earlier unit i, whose mark to this unit is `left`.
-fn past(marks: &Marks, row: &[u16; 20], placed: u32, unit: usize, i: usize, left: u16) -> Grades
-    requires { (RowOf marks.now unit row.now) × (left ≡ numbers_of marks.now i unit) }
-    ensures signs { result.signs ≡ past (at signs_of (numbers_of marks.now) unit i) (units_of marks.now) placed unit }
-    ensures rises { result.rises ≡ past (at rises_of (numbers_of marks.now) unit i) (units_of marks.now) placed unit }
-    ensures few { (unsigned_abs result.signs ≤ 40) × (unsigned_abs result.rises ≤ 400000) }
-{
-    let mut signs = 0;
-    let mut rises = 0;
-    for k in 0..marks.units() {
-        let more = beyond(marks, placed, unit, i, left, k + 1, row[k]);
-        signs += more.signs;
-        rises += more.rises;
-    }
-    Grades { signs, rises }
+// A unit that is placed after a set, with its marks side by side.
+#[derive(Drop)]
+struct Placing<'a> {
+    marks: &'a Marks,
+    placed: u32,
+    unit: usize,
+    row: [u16; 20],
+    ghost row_is: { RowOf marks.now unit row },
 }
 
-// What the unit i adds to the step: nothing if it is not placed. `left` is its mark to this unit.
-fn behind(marks: &Marks, row: &[u16; 20], placed: u32, unit: usize, i: usize, left: u16) -> Grades
-    requires { (RowOf marks.now unit row.now) × (left ≡ numbers_of marks.now unit i) }
-    ensures signs { result.signs ≡ behind (at signs_of (numbers_of marks.now) unit) (units_of marks.now) placed unit i }
-    ensures rises { result.rises ≡ behind (at rises_of (numbers_of marks.now) unit) (units_of marks.now) placed unit i }
-    ensures few { (unsigned_abs result.signs ≤ 40) × (unsigned_abs result.rises ≤ 400000) }
-{
-    if has(placed, i) {
-        past(marks, row, placed, unit, i, left)
-    } else {
-        NONE
+impl Placing<'_> {
+    // Whether k comes later: it is not placed, and is other than the unit that is placed now.
+    fn comes_later(&self, k: usize) -> bool
+        ensures { result ≡ later self.now.placed self.now.unit k }
+    {
+        !has(self.placed, k) && k != self.unit
+    }
+
+    // What all later units add for the earlier unit i, whose mark to the unit is `left`.
+    fn past(&self, i: usize, left: u16) -> Grades
+        requires { left ≡ numbers_of self.now.marks.now self.now.unit i }
+        ensures { Graded (λ f. past (at f (numbers_of self.now.marks.now) self.now.unit i) (units_of self.now.marks.now) self.now.placed self.now.unit) result }
+    {
+        let mut sum = NONE;
+        for (k, right) in self.row[..self.marks.units()].iter().enumerate() {
+            if self.comes_later(k + 1) {
+                sum = sum + compared(self.marks.mark(i, k + 1), left, *right);
+            }
+        }
+        sum
+    }
+
+    // What all earlier units add.
+    fn step(&self) -> Grades
+        ensures { Graded (λ f. sum_ℤ (behind (at f (numbers_of self.now.marks.now) self.now.unit) (units_of self.now.marks.now) self.now.placed self.now.unit) (labels (units_of self.now.marks.now))) result }
+    {
+        let mut sum = NONE;
+        for (i, left) in self.row[..self.marks.units()].iter().enumerate() {
+            if has(self.placed, i + 1) {
+                sum = sum + self.past(i + 1, *left);
+            }
+        }
+        sum
     }
 }
+
+pub struct Gradient;
 
 impl Yardstick for Gradient {
     type Total = Grades;
@@ -178,25 +166,21 @@ impl Yardstick for Gradient {
     }
 
     fn add(s: Grades, t: Grades) -> Grades {
-        Grades {
-            signs: s.signs + t.signs,
-            rises: s.rises + t.rises,
-        }
+        s + t
     }
 
     fn exceeds(s: Grades, t: Grades) -> bool {
-        s.signs > t.signs || (s.signs == t.signs && s.rises > t.rises)
+        s > t
     }
 
     fn step(marks: &Marks, placed: u32, unit: usize) -> Grades {
         let row = row_of(marks, unit);
-        let mut signs = 0;
-        let mut rises = 0;
-        for i in 0..marks.units() {
-            let more = behind(marks, &row, placed, unit, i + 1, row[i]);
-            signs += more.signs;
-            rises += more.rises;
-        }
-        Grades { signs, rises }
+        let placing = Placing {
+            marks,
+            placed,
+            unit,
+            row,
+        };
+        placing.step()
     }
 }

@@ -1,26 +1,25 @@
 // The total of an order under any yardstick.
-ghost use Rattle.std.specs.Prelude.{◌≡◌, ◌^◌, ◌<◌, true, [], ◌∷◌, pos};
-ghost use Rattle.rules.specs.Units.{label, with_unit};
+ghost use Rattle.std.specs.Prelude.{◌≡◌, true, false, MatchOption};
 ghost use Rattle.rules.specs.Orders.{is_order};
-ghost use Rattle.rules.specs.Yardsticks.{spread, gradient, target};
 ghost use Rattle.marks.specs.Numbers.{units_of};
 ghost use Rattle.yardsticks.specs.Members.{AsRuled};
 ghost use Rattle.yardsticks.specs.Merits.{merit_of};
-ghost use Rattle.yardsticks.specs.Totals.{total_of, Totals};
+ghost use Rattle.yardsticks.specs.Totals.{order_of, total_of, Totals};
 
-use crate::gradient::{Grades, Gradient};
-use crate::spread::Spread;
-use crate::target::Target;
 use crate::yardstick::Yardstick;
 use marks::marks::Marks;
 use marks::rows::is_order;
+use marks::sets::with_unit;
 
-// A set with a unit that it does not have.
-fn with_unit(placed: u32, unit: usize) -> u32
-    requires { (label 32 unit ≡ true) × (with_unit placed unit < 2 ^ 32) }
-    ensures { result ≡ with_unit placed unit }
+// The order that a row begins with: as many labels as there are units. None unless they are an order.
+fn order_in<'a>(marks: &Marks, row: &'a [u8]) -> Option<&'a [u8]>
+    ensures { MatchOption result (is_order (units_of marks.now) (order_of marks.now row.now) ≡ false) (λ o. (is_order (units_of marks.now) o.now ≡ true) × (o.now ≡ order_of marks.now row.now)) }
 {
-    placed + (1 << (unit - 1))
+    let units = marks.units();
+    if !is_order(row, units) {
+        return None;
+    }
+    Some(&row[..units])
 }
 
 // The total of an order.
@@ -42,35 +41,11 @@ fn sum<Y: Yardstick>(marks: &Marks, order: &[u8]) -> Y::Total
 pub fn total<Y: Yardstick>(marks: &Marks, row: &[u8]) -> Option<Y::Total>
     ensures { Totals (merit_of Y.Yardstick) Y.Yardstick.numbers marks.now row.now result }
 {
-    let units = marks.units();
-    if !is_order(row, units) {
-        return None;
-    }
-    Some(sum::<Y>(marks, &row[0..units]))
+    let order = order_in(marks, row)?;
+    Some(sum::<Y>(marks, order))
 }
 
-// The same for spread, gradient and target.
-pub fn spread_total(marks: &Marks, row: &[u8]) -> Option<u64>
-    ensures { Totals spread (λ t. pos t ∷ []) marks.now row.now result }
-{
-    total::<Spread>(marks, row)
-}
-
-pub fn gradient_total(marks: &Marks, row: &[u8]) -> Option<Grades>
-    ensures { Totals gradient (λ t. t.signs ∷ t.rises ∷ []) marks.now row.now result }
-{
-    total::<Gradient>(marks, row)
-}
-
-pub fn target_total(marks: &Marks, row: &[u8]) -> Option<i64>
-    ensures { Totals target (λ t. t ∷ []) marks.now row.now result }
-{
-    total::<Target>(marks, row)
-}
-
-// Caps, adding, comparing and steps of the three are those of the rulebook.
-pub fn members_as_ruled() -> u8
+// Caps, adding, comparing and steps of the three are those of the rulebook, and the numbers of their totals are these.
+pub fn members_as_ruled()
     ensures { AsRuled }
-{
-    0
-}
+{}

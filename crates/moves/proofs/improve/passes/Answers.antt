@@ -1,68 +1,41 @@
-use Rattle.std.proofs.Common.{◌≡◌, length, refl, ap, ◌∙◌, arith, rules}
-use Rattle.std.proofs.lemmas.Bool.{cond-true}
-use Rattle.rules.proofs.Rows.{means_is_order}
-use Rattle.marks.proofs.Laws.{most}
+use Rattle.std.proofs.Common.{refl, arith, rules}
 use Rattle.moves.proofs.Laws.{lawful}
 use Rattle.moves.proofs.Passes as over
 use Rattle.moves.proofs.improve.passes.Goals as goal
+use Rattle.moves.proofs.improve.passes.Goals.{else-loop-number-test, then-loop-number-test+in_default+else-number-many}
 
-pub better-requires : goal.better-requires
-better-requires g c =
-    let w = over.turn _ _ _ _ g.Y.Yardstick.numbers c.args.limit (lawful g.met.M.MoveKind) c.pass.invariant c.loop-i.invariant c.loop-i-test.true
-    c.many-many.ensures c.units-units.ensures c.new-trial.ensures.units c.new-trial.ensures.row c.make.ensures.row in
-    record { units = c.requires.same_units; order = means_is_order _ _ w.tried.order }
-
-pub drop-trial-requires : goal.drop-trial-requires
-drop-trial-requires g c =
-    let w = over.turn _ _ _ _ g.Y.Yardstick.numbers c.args.limit (lawful g.met.M.MoveKind) c.pass.invariant c.loop-i.invariant c.loop-i-test.true
-    c.many-many.ensures c.units-units.ensures c.new-trial.ensures.units c.new-trial.ensures.row c.make.ensures.row in
-    let units = c.make.ensures.units ∙ c.new-trial.ensures.units ∙ c.units-units.ensures in
-    (omega (arith, units, w.tried.room), omega (arith, units, most c.args.marks.now))
-
-pub drop-trial-requires-in-Some : goal.drop-trial-requires-in-Some
-drop-trial-requires-in-Some g c =
-    let w = over.turn _ _ _ _ g.Y.Yardstick.numbers c.args.limit (lawful g.met.M.MoveKind) c.pass.invariant c.loop-i.invariant c.loop-i-test.true
-    c.many-many.ensures c.units-units.ensures c.new-trial.ensures.units c.new-trial.ensures.row c.make.ensures.row in
-    let units = c.keep.ensures.units ∙ c.make.ensures.units ∙ c.new-trial.ensures.units ∙ c.units-units.ensures in
-    (omega (arith, units, w.tried.room, ap length c.keep.ensures.row), omega (arith, units, most c.args.marks.now))
-
-pub drop-trial-requires-in-loop-i : goal.drop-trial-requires-in-loop-i
-drop-trial-requires-in-loop-i g c =
-    let w = over.turn _ _ _ _ g.Y.Yardstick.numbers c.args.limit (lawful g.met.M.MoveKind) c.pass.invariant c.loop-i.invariant c.loop-i-test.true
-    c.many-many.ensures c.units-units.ensures c.new-trial.ensures.units c.new-trial.ensures.row c.make.ensures.row in
-    let units = c.make.ensures.units ∙ c.new-trial.ensures.units ∙ c.units-units.ensures in
-    (omega (arith, units, w.tried.room), omega (arith, units, most c.args.marks.now))
-
-pub loop-i-preserved : goal.loop-i-preserved
-loop-i-preserved g c =
-    let w = over.turn _ _ _ _ g.Y.Yardstick.numbers c.args.limit (lawful g.met.M.MoveKind) c.pass.invariant c.loop-i.invariant c.loop-i-test.true
-    c.many-many.ensures c.units-units.ensures c.new-trial.ensures.units c.new-trial.ensures.row c.make.ensures.row in
-    let back = over.put_back _ _ _ _ w.tried (c.make.ensures.kept ∙ c.new-trial.ensures.kept) (c.make.ensures.units ∙ c.new-trial.ensures.units)
-    c.units-units.ensures c.make.ensures.before c.new-trial.ensures.before c.drop-trial-in-loop-i.ensures in
-    let lent = c.make.ensures.lent ∙ c.new-trial.ensures.lent in
-    over.scanned_more _ _ _ _ g.Y.Yardstick.numbers c.args.limit c.loop-i.invariant w.tried c.in_default.ensures _ (search rules)
-
-pub pass-preserved : goal.pass-preserved
-pass-preserved g c =
-    let w = over.turn _ _ _ _ g.Y.Yardstick.numbers c.args.limit (lawful g.met.M.MoveKind) c.pass.invariant c.loop-i.invariant c.loop-i-test.true
-    c.many-many.ensures c.units-units.ensures c.new-trial.ensures.units c.new-trial.ensures.row c.make.ensures.row in
-    let kept : c.drop-trial-in-Some.new.self.0 ≡ c.make.new.self.row.now =
-    c.drop-trial-in-Some.ensures ∙ cond-true _ _ _ c.keep.ensures.kept ∙ c.keep.ensures.row in
-    let lent = c.keep.ensures.lent ∙ c.make.ensures.lent ∙ c.new-trial.ensures.lent in
-    let better = c.in-Some.ensures in
-    over.goes_on _ _ _ _ w.so w.none w.below w.tried better.0 _ better.1 (omega (arith, w.so.within)) _ (search rules)
+pub better-requires-clause-order : goal.better-requires-clause-order
+better-requires-clause-order g c =
+    let w = over.turn _ _ _ _ (lawful g.met.M.MoveKind) c.loop-number.invariant (omega arith) c.loop-number-test.true
+    c.new-trial.ensures.row in
+    over.is_tried _ _ _ _ w
 
 pub returns-then-made-limit : goal.returns-then-made-limit
 returns-then-made-limit g c =
-    let w = over.turn _ _ _ _ g.Y.Yardstick.numbers c.args.limit (lawful g.met.M.MoveKind) c.pass.invariant c.loop-i.invariant c.loop-i-test.true
-    c.many-many.ensures c.units-units.ensures c.new-trial.ensures.units c.new-trial.ensures.row c.make.ensures.row in
-    let back = over.put_back _ _ _ _ w.tried (c.make.ensures.kept ∙ c.new-trial.ensures.kept) (c.make.ensures.units ∙ c.new-trial.ensures.units)
-    c.units-units.ensures c.make.ensures.before c.new-trial.ensures.before c.drop-trial.ensures in
-    let lent = c.make.ensures.lent ∙ c.new-trial.ensures.lent in
-    over.ends_limited _ _ _ _ w.so g.Y.Yardstick.numbers c.loop-i.best refl _ (search rules) w.none w.below w.tried c.in-Some.ensures.0
-    c.if-made-limit.true
+    let w = over.turn _ _ _ _ (lawful g.met.M.MoveKind) c.loop-number.invariant (omega arith) c.loop-number-test.true
+    c.new-trial.ensures.row in
+    let back = over.put_back _ _ _ _ w _ _ c.new-trial.ensures.before c.drop-trial.ensures in
+    let lent = c.new-trial.ensures.lent in
+    over.ends_limited _ _ _ _ w c.in-Some.ensures.0 g.Y.Yardstick.numbers c.loop-number.best refl c.requires.whole c.if-made-limit.true _ (search rules)
+
+pub pass-preserved : goal.pass-preserved
+pass-preserved g c =
+    let w = over.turn _ _ _ _ (lawful g.met.M.MoveKind) c.loop-number.invariant (omega arith) c.loop-number-test.true
+    c.new-trial.ensures.row in
+    let lent = c.new-trial.ensures.lent in
+    over.goes_on _ _ _ _ w c.in-Some.ensures.0 _ c.in-Some.ensures.1 (omega (arith, w.scan.so.within)) _ (search rules)
 
 pub returns-in-pass : goal.returns-in-pass
 returns-in-pass g c =
-    over.ends_settled _ _ _ _ (over.carried _ _ _ _ g.Y.Yardstick.numbers c.args.limit c.pass.invariant c.loop-i.invariant) g.Y.Yardstick.numbers c.loop-i.best refl
-    c.loop-i.row refl (λ j l. c.loop-i.invariant.none j (omega (arith, c.loop-i-test.false, c.many-many.ensures, ap g.M.MoveKind.many c.units-units.ensures)))
+    elim c.loop-number-test.branch [
+      | else-loop-number-test w ↦
+          rw w.order-is (over.ends_settled _ _ _ _ g.Y.Yardstick.numbers c.loop-number.best c.requires.whole c.loop-number.invariant
+          (omega arith))
+      | then-loop-number-test+in_default+else-number-many w ↦
+          let v = over.turn _ _ _ _ (lawful g.met.M.MoveKind) c.loop-number.invariant (omega arith) w.loop-number-test.true
+          w.new-trial.ensures.row in
+          let back = over.put_back _ _ _ _ v _ _ w.new-trial.ensures.before w.drop-trial-in-loop-number.ensures in
+          let lent = w.new-trial.ensures.lent in
+          over.ends_settled _ _ _ _ g.Y.Yardstick.numbers c.loop-number.best c.requires.whole (over.scanned_more _ _ _ _ v w.in_default.ensures _ (search rules))
+          (omega arith)
+    ]

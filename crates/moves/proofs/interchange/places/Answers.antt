@@ -1,20 +1,13 @@
-use Rattle.std.proofs.Common.{sym, ◌∙◌, arith}
-use Rattle.moves.proofs.Pairs.{some_left, past_row, in_row}
+use Rattle.std.proofs.Common.{sym, ◌∙◌}
+use Rattle.moves.proofs.Pairs.{past_row, in_row}
 use Rattle.moves.proofs.interchange.places.Goals as goal
 
 pub loop-u-preserved : goal.loop-u-preserved
 loop-u-preserved c =
     let w = c.loop-u.invariant in
-    let p = past_row c.args.units c.loop-u.u c.loop-u.left w.0 c.loop-u-test.true in
+    let p = past_row c.args.units c.loop-u.u c.loop-u.left c.loop-u-test.true w.0 c.if-left-later.false in
     (p.0, p.1 ∙ w.1)
 
-pub returns : goal.returns
-returns c =
-    let w = c.loop-u.invariant in
-    let u = c.loop-u.u in
-    let lt = some_left c.args.units u c.loop-u.left w.0 in
-    let low = c.loop-u-test.false in
-    record {
-      value = sym (in_row c.args.units u c.loop-u.left lt low) ∙ w.1;
-      within = (lt, omega (arith, low));
-    }
+pub returns-then-left-later-clause-value : goal.returns-then-left-later-clause-value
+returns-then-left-later-clause-value c =
+    sym (in_row c.args.units c.loop-u.u c.loop-u.left c.loop-u-test.true c.if-left-later.true) ∙ c.loop-u.invariant.1

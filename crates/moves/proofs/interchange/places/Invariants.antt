@@ -7,6 +7,3 @@ abbrev pub invariant-loop-u : goal.invariant-loop-u
 invariant-loop-u l =
     (l.left < length (rows ltb l.units l.u (l.units - l.u)))
     × (get_or (rows ltb l.units l.u (l.units - l.u)) l.left (0, 0) ≡ place_pair ltb l.units l.number)
-
-abbrev pub decreases-loop-u : goal.decreases-loop-u
-decreases-loop-u l = l.units - l.u

@@ -1,11 +1,10 @@
 use Rattle.std.proofs.Common.{◌*◌, ◌≤◌, arith}
-use Rattle.std.proofs.lemmas.Nat.{mul-le}
 use Rattle.std.proofs.lemmas.Int.{ints}
+use Rattle.scaling.proofs.Squares.{times_low}
 use Rattle.scaling.proofs.coordinates.difference.Goals as goal
 
--- the product is at most twenty times the greatest sum of squares
-low : (c : goal.Start) → c.args.units * c.args.marks ≤ 800000000000
-low c = mul-le c.args.units c.args.marks 20 40000000000 c.requires.units c.requires.marks
+low : (c : goal.Start) → c.args.units.count * c.args.marks ≤ 800000000000
+low c = times_low c.args.units.count c.args.marks c.args.units.most c.requires.marks
 
 pub overflow_cast-result : goal.overflow_cast-result
 overflow_cast-result c = omega (arith, ints, low c)

@@ -1,4 +1,4 @@
-use Rattle.std.proofs.Common.{◌≡◌, ℕ, ◌*◌, get_or, nat_abs, ap, ◌∙◌, arith, w64, to_z, of_z}
+use Rattle.std.proofs.Common.{◌≡◌, ℕ, ◌*◌, nat_abs, ap, ◌∙◌, arith, w64, to_z, of_z}
 use Rattle.std.proofs.lemmas.Int.{ints}
 use Rattle.rules.specs.Units.{displacement}
 use Rattle.rules.proofs.Rows.{is_order_means}
@@ -12,25 +12,25 @@ loop-i-init c = none_yet c.args.marks.now c.args.order.now c.requires.order c.ar
 pub squared-squares-requires : goal.squared-squares-requires
 squared-squares-requires c =
     let m = c.args.marks.now in
-    let j = get_or c.args.order.now c.loop-i.i 0 in
+    let j = c.from-unit.result in
     let d : to_z w64 (of_z w64 c.displacement-far.result) ≡ displacement (numbers_of m) (units_of m) c.loop-i.placed j = omega (arith, ints) in
     omega (arith, c.unsigned_abs.ensures.value ∙ ap nat_abs d, near m c.loop-i.placed j)
 
 pub overflow_add-squares : goal.overflow_add-squares
 overflow_add-squares c =
     let m = c.args.marks.now in
-    let j = get_or c.args.order.now c.loop-i.i 0 in
+    let j = c.from-unit.result in
     let d : to_z w64 (of_z w64 c.displacement-far.result) ≡ displacement (numbers_of m) (units_of m) c.loop-i.placed j = omega (arith, ints) in
     let r = c.squared-squares.ensures ∙ ap (λ (x : ℕ). x * x) c.unsigned_abs.ensures.value in
-    omega (arith, next_few m c.args.order.now c.requires.order c.args.list.now _ _ _ _ c.loop-i.invariant c.loop-i-test.true _ _ d r)
+    omega (arith, next_few m c.args.order.now c.requires.order c.args.list.now _ _ _ _ c.loop-i.invariant c.loop-i-test.true _ c.from-unit.ensures _ _ d r)
 
 pub loop-i-preserved : goal.loop-i-preserved
 loop-i-preserved c =
     let m = c.args.marks.now in
-    let j = get_or c.args.order.now c.loop-i.i 0 in
+    let j = c.from-unit.result in
     let d : to_z w64 (of_z w64 c.displacement-far.result) ≡ displacement (numbers_of m) (units_of m) c.loop-i.placed j = omega (arith, ints) in
     let r = c.squared-squares.ensures ∙ ap (λ (x : ℕ). x * x) c.unsigned_abs.ensures.value in
-    next_unit m c.args.order.now c.requires.order c.args.list.now _ _ _ _ c.loop-i.invariant c.loop-i-test.true _ _ d r _ c.with_unit-placed.ensures
+    next_unit m c.args.order.now c.requires.order c.args.list.now _ _ _ _ c.loop-i.invariant c.loop-i-test.true _ c.from-unit.ensures _ _ d r _ c.with_unit-placed.ensures
     (omega (arith, c.loop-i.auto.list, c.requires.room, (is_order_means (units_of m) c.args.order.now c.requires.order).as_many))
 
 pub returns : goal.returns

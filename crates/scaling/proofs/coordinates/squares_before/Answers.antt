@@ -1,17 +1,20 @@
-use Rattle.std.proofs.Common.{◌≡◌, ℕ, ◌+◌, ◌*◌, pos, ap, ◌∙◌, arith}
-use Rattle.rules.specs.Scaling.{square}
-use Rattle.marks.specs.Numbers.{numbers_of}
-use Rattle.marks.proofs.Laws.{low}
-use Rattle.scaling.proofs.Squares.{square_low, next_label}
+use Rattle.std.proofs.Common.{ℕ, rules, ◌-◌, arith}
+use Rattle.std.proofs.lemmas.Iterator.{YieldsList-from_map}
+use Rattle.std.proofs.lemmas.Iterator.Consumers.{fits_by_from_yields_list, sum_by_from_yields_List}
+use Rattle.rules.specs.Units.{labels}
+use Rattle.scaling.proofs.Ranges.{from_range}
+use Rattle.scaling.proofs.Squares.{of_pair, some_low}
 use Rattle.scaling.proofs.coordinates.squares_before.Goals as goal
 
-pub loop-i-preserved : goal.loop-i-preserved
-loop-i-preserved c =
-    let m = c.args.marks.now in
-    let i = c.loop-i.i in
-    let k = c.args.k in
-    let d : c.squared-sum.result ≡ numbers_of c.args.marks.now (c.loop-i.i + 1) (c.args.k + 1) * numbers_of c.args.marks.now (c.loop-i.i + 1) (c.args.k + 1) =
-    c.squared-sum.ensures ∙ ap (λ (x : ℕ). x * x) (c.from.ensures ∙ c.mark.ensures) in (
-      next_label (λ a. square (pos (numbers_of m a (k + 1)))) i _ _ c.loop-i.invariant.0 (ap pos d),
-      omega (arith, d, square_low (numbers_of m (i + 1) (k + 1)) 10000 (low m (i + 1) (k + 1))),
-    )
+pub sum-requires-clause-fits : goal.sum-requires-clause-fits
+sum-requires-clause-fits c =
+    let h : ℕ → ℕ = λ a. of_pair c.args.marks.now a c.args.unit in
+    fits_by_from_yields_list h (labels (c.args.unit - 1)) c.map.result _
+    (YieldsList-from_map _ h (from_range c.args.unit c.map.ensures.source) c.map.ensures.closure (λ x r q k. search rules))
+    (omega (arith, some_low c.args.marks.now c.args.unit (c.args.unit - 1)))
+
+pub returns : goal.returns
+returns c =
+    let h : ℕ → ℕ = λ a. of_pair c.args.marks.now a c.args.unit in
+    sum_by_from_yields_List h (labels (c.args.unit - 1)) c.map.result c.sum.result c.sum.ensures.ran
+    (YieldsList-from_map _ h (from_range c.args.unit c.map.ensures.source) c.map.ensures.closure (λ x r q k. search rules))

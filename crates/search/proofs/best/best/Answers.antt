@@ -1,70 +1,58 @@
-use Rattle.std.proofs.Common.{true, false, length, get_or, refl, arith}
-use Rattle.std.proofs.lemmas.Nat.{pow_pos}
-use Rattle.marks.specs.Numbers.{units_of, numbers_of}
-use Rattle.marks.specs.Tied.{tied_of}
+use Rattle.std.proofs.Common.{rules, Ok, Err, ◌++◌, drop, get_or, refl, subst₂, arith}
+use Rattle.marks.specs.declared.marks.Marks.{Marks}
+use Rattle.marks.specs.declared.ties.Ties.{Ties}
 use Rattle.yardsticks.specs.Merits.{merit_of}
+use Rattle.search.specs.declared.best.SearchFault.TheVariants.{Number}
+use Rattle.search.specs.Best.{Searches}
 use Rattle.search.proofs.Found as found
 use Rattle.search.proofs.best.best.Goals as goal
 
-pub returns-then-not-has_order : goal.returns-then-not-has_order
-returns-then-not-has_order g c =
-    let m = c.args.marks.now in
-    let t = c.args.ties.now in (
-      found.circle_left g.Y.Yardstick.numbers (merit_of g.Y.Yardstick) m t c.args.k (record { totals = c.args.totals.now; counts = c.args.counts.now; row = c.args.row.now }) _ _
-          c.units.ensures c.units-units.ensures c.if-units.false c.if-is_short.ensures c.if-not-has_order.ensures.circle,
-      refl,
-    )
+pub returns-in_err-sheet : goal.returns-in_err-sheet
+returns-in_err-sheet g c =
+    found.refused g.Y.Yardstick.numbers (merit_of g.Y.Yardstick) c.args.k c.args.marks.now c.args.ties.now
+    (record { totals = c.args.totals.now; counts = c.args.counts.now; row = c.args.row.now }) c.in_err-sheet.field-0.0 c.in_err-sheet.ensures _ (search rules)
 
-pub fill-requires-clause-sound : goal.fill-requires-clause-sound
-fill-requires-clause-sound g c =
-    (found.passed c.args.marks.now c.args.ties.now (record { totals = c.args.totals.now; counts = c.args.counts.now; row = c.args.row.now }) _ _
-    c.units.ensures c.units-units.ensures c.if-units.false c.if-is_short.ensures c.if-not-has_order.ensures.circle).sound
+pub fill-requires : goal.fill-requires
+fill-requires g c =
+    found.room g.Y.Yardstick.numbers (merit_of g.Y.Yardstick) c.args.k c.in_ok-sheet.sheet.sound
+    (record { totals = c.args.totals.now; counts = c.args.counts.now; row = c.args.row.now }) c.in_ok-sheet.ensures.2
 
 pub returns-then-not-is_numbered : goal.returns-then-not-is_numbered
 returns-then-not-is_numbered g c =
-    let m = c.args.marks.now in
-    let t = c.args.ties.now in
-    let p = found.passed m t (record { totals = c.args.totals.now; counts = c.args.counts.now; row = c.args.row.now }) _ _
-    c.units.ensures c.units-units.ensures c.if-units.false c.if-is_short.ensures c.if-not-has_order.ensures.circle in
-    let count = found.first_count g.Y.Yardstick.numbers (merit_of g.Y.Yardstick) (numbers_of m) (tied_of t) (units_of m) c.fill.new.totals c.fill.new.counts
-    c.fill.ensures.filled in (
-      found.number_left g.Y.Yardstick.numbers (merit_of g.Y.Yardstick) m t c.args.k _ (get_or c.fill.new.counts 0 0) false p count c.if-not-is_numbered.ensures,
-      (record { filled = c.fill.ensures.filled; totals_past = c.fill.ensures.totals_past; counts_past = c.fill.ensures.counts_past }, refl),
-    )
+    let y = merit_of g.Y.Yardstick in
+    let w = c.in_ok-sheet.ensures in
+    subst₂ (λ (m : Marks) (t : Ties). Searches g.Y.Yardstick.numbers (merit_of g.Y.Yardstick) m t c.args.k
+    (record { totals = c.args.totals.now; counts = c.args.counts.now; row = c.args.row.now })
+    (record { totals = c.fill.new.totals; counts = c.fill.new.counts; row = c.args.row.now }) (Err Number)) w.0 w.1
+    (found.no_number g.Y.Yardstick.numbers y c.args.k c.in_ok-sheet.sheet.sound _ w.2 _
+    (record { filled = c.fill.ensures.filled; totals_past = c.fill.ensures.totals_past; counts_past = c.fill.ensures.counts_past }) c.if-not-is_numbered.ensures refl)
 
-pub nth-requires : goal.nth-requires
-nth-requires g c =
-    let m = c.args.marks.now in
-    let t = c.args.ties.now in
-    let p = found.passed m t (record { totals = c.args.totals.now; counts = c.args.counts.now; row = c.args.row.now }) _ _
-    c.units.ensures c.units-units.ensures c.if-units.false c.if-is_short.ensures c.if-not-has_order.ensures.circle in
-    let room = found.has_room (units_of m) (length c.args.totals.now) (length c.args.counts.now) (length c.args.row.now) p.enough in
-    let k = found.in_range (get_or c.fill.new.counts 0 0) c.args.k c.if-not-is_numbered.ensures in
-    record {
-      searched = record {
-        sound = p.sound;
-        room = record { for_totals = omega (arith, c.fill.ensures.lengths); for_counts = omega (arith, c.fill.ensures.lengths) };
-        filled = c.fill.ensures.filled;
-      };
-      number = (k.0, omega (arith, c.fill.ensures.filled.count 0 (pow_pos (units_of m))));
-      places = room.1.1;
-    }
+pub invariant_of-tables : goal.invariant_of-tables
+invariant_of-tables g c =
+    let r = found.room g.Y.Yardstick.numbers (merit_of g.Y.Yardstick) c.args.k c.in_ok-sheet.sheet.sound
+        (record { totals = c.args.totals.now; counts = c.args.counts.now; row = c.args.row.now }) c.in_ok-sheet.ensures.2 in
+    record { room = record { for_totals = omega (arith, r.for_totals, c.fill.ensures.lengths); for_counts = omega (arith, r.for_counts, c.fill.ensures.lengths) } }
+
+pub slice_bounds-nth-end : goal.slice_bounds-nth-end
+slice_bounds-nth-end g c =
+    omega (arith, c.units.ensures, found.places g.Y.Yardstick.numbers (merit_of g.Y.Yardstick) c.args.k c.in_ok-sheet.sheet.sound
+    (record { totals = c.args.totals.now; counts = c.args.counts.now; row = c.args.row.now }) c.in_ok-sheet.ensures.2)
+
+pub nth-requires-clause-number : goal.nth-requires-clause-number
+nth-requires-clause-number g c =
+    found.numbers_an_order g.Y.Yardstick.numbers (merit_of g.Y.Yardstick) c.args.k c.in_ok-sheet.sheet.sound
+    (record { totals = c.args.totals.now; counts = c.args.counts.now; row = c.args.row.now }) c.in_ok-sheet.ensures.2
+    (record { totals = c.fill.new.totals; counts = c.fill.new.counts; row = c.args.row.now })
+    (record { filled = c.fill.ensures.filled; totals_past = c.fill.ensures.totals_past; counts_past = c.fill.ensures.counts_past }) c.if-not-is_numbered.ensures
 
 pub returns : goal.returns
 returns g c =
-    let m = c.args.marks.now in
-    let t = c.args.ties.now in
-    let p = found.passed m t (record { totals = c.args.totals.now; counts = c.args.counts.now; row = c.args.row.now }) _ _
-    c.units.ensures c.units-units.ensures c.if-units.false c.if-is_short.ensures c.if-not-has_order.ensures.circle in
-    let count = found.first_count g.Y.Yardstick.numbers (merit_of g.Y.Yardstick) (numbers_of m) (tied_of t) (units_of m) c.fill.new.totals c.fill.new.counts
-    c.fill.ensures.filled in
-    record {
-      no_fault =
-          found.number_left g.Y.Yardstick.numbers (merit_of g.Y.Yardstick) m t c.args.k _ (get_or c.fill.new.counts 0 0) true p count c.if-not-is_numbered.ensures;
-      greatest =
-          found.first_total g.Y.Yardstick.numbers (merit_of g.Y.Yardstick) (numbers_of m) (tied_of t) (units_of m) c.fill.new.totals c.fill.new.counts
-          c.fill.ensures.filled c.index-totals-0.result c.index-totals-0.is;
-      counted = count;
-      tables = record { filled = c.fill.ensures.filled; totals_past = c.fill.ensures.totals_past; counts_past = c.fill.ensures.counts_past };
-      order = c.nth.ensures;
-    }
+    let y = merit_of g.Y.Yardstick in
+    let w = c.in_ok-sheet.ensures in
+    subst₂ (λ (m : Marks) (t : Ties). Searches g.Y.Yardstick.numbers (merit_of g.Y.Yardstick) m t c.args.k
+    (record { totals = c.args.totals.now; counts = c.args.counts.now; row = c.args.row.now })
+    (record { totals = c.fill.new.totals; counts = c.fill.new.counts; row = c.nth.new.row ++ drop c.units.result c.args.row.now })
+    (Ok (c.index-totals-0.result, get_or c.fill.new.counts 0 0))) w.0 w.1
+    (found.answered g.Y.Yardstick.numbers y c.args.k c.in_ok-sheet.sheet.sound _ w.2 _
+    (record { filled = c.fill.ensures.filled; totals_past = c.fill.ensures.totals_past; counts_past = c.fill.ensures.counts_past }) c.if-not-is_numbered.ensures
+    _ c.index-totals-0.is (λ i. c.nth.ensures i ++ drop (c.units.ensures i) c.args.row.now))

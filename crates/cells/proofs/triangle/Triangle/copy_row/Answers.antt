@@ -1,9 +1,15 @@
-use Rattle.std.proofs.Common.{ap, ◌∙◌, arith}
-use Rattle.cells.specs.Gaps.{low_value}
-use Rattle.cells.proofs.Copying.{row_more}
+use Rattle.std.proofs.Common.{arith}
+use Rattle.cells.proofs.Copying.{row_more, row_whole}
 use Rattle.cells.proofs.triangle.Triangle.copy_row.Goals as goal
 
-pub loop-i-preserved : goal.loop-i-preserved
-loop-i-preserved c =
-    row_more c.args.self.now c.args.a c.loop-i.i c.low_value.result c.args.marks.now c.loop-i.marks c.put.new.self c.put.result
-    c.requires c.loop-i.auto.i (omega arith) (c.low_value.ensures.is ∙ ap low_value c.mark.ensures) c.low_value.ensures.low c.loop-i.invariant c.put.ensures
+pub loop-b-preserved : goal.loop-b-preserved
+loop-b-preserved c =
+    row_more c.loop-b.invariant c.put.ensures c.mark.ensures c.low_value.ensures.is c.low_value.ensures.low
+    c.requires.least (omega arith) (omega arith)
+
+pub returns-2 : goal.returns-2
+returns-2 c =
+    row_whole
+    (row_more c.loop-b.invariant c.put.ensures c.mark.ensures c.low_value.ensures.is c.low_value.ensures.low
+    c.requires.least (omega arith) (omega arith))
+    (omega arith)

@@ -1,14 +1,12 @@
-use Rattle.std.proofs.Common.{sym, ◌∙◌, arith}
-use Rattle.cells.proofs.Finding.{pairs_found, pairs_past, pairs_end}
+use Rattle.std.proofs.Common.{rules, ◌≡◌}
+use borrow.Author.Tests.{tests}
+use Rattle.cells.specs.Gaps.{gap_outcome, row_decided}
+use Rattle.cells.proofs.Ranges.{found_some}
+use Rattle.cells.proofs.Finding.{pairs_first}
 use Rattle.cells.proofs.triangle.Triangle.first_gap.Goals as goal
 
-pub returns-in-Some : goal.returns-in-Some
-returns-in-Some c =
-    sym (c.loop-i.invariant ∙ pairs_found c.args.units c.args.self.now c.loop-i.i (omega arith) c.in-Some.b (sym c.in-Some.ensures))
-
-pub loop-i-preserved : goal.loop-i-preserved
-loop-i-preserved c =
-    c.loop-i.invariant ∙ pairs_past c.args.units c.args.self.now c.loop-i.i (omega arith) (sym c.in_default.ensures)
-
 pub returns : goal.returns
-returns c = sym (c.loop-i.invariant ∙ pairs_end c.args.units c.args.self.now c.loop-i.i (omega arith))
+returns c =
+    pairs_first c.args.units c.args.self.now c.find_map.result
+    (found_some _ _ (λ a r. gap_outcome r ≡ row_decided c.args.units c.args.self.now a a) (λ x r q k. search (rules, tests))
+    _ c.find_map.result c.find_map.ensures.runs)

@@ -1,8 +1,7 @@
-use Rattle.std.proofs.Common.{sym}
+use Rattle.std.proofs.Common.{rules, arith}
 use Rattle.cells.proofs.Places.{read_set}
 use Rattle.cells.proofs.triangle.Triangle.put.Goals as goal
 
-pub returns-then-is_pair : goal.returns-then-is_pair
-returns-then-is_pair c = λ x y. rw c.store.ensures.stored
-    (read_set c.args.self.now.cells c.args.a c.args.b c.args.mark c.store.ensures.whole
-    (sym c.if-is_pair.ensures) x y)
+pub returns-in-Some : goal.returns-in-Some
+returns-in-Some c = λ x y. rw c.in-Some.ensures.1
+    (read_set c.args.self.now.cells c.args.a c.args.b c.args.mark (search rules) c.in-Some.ensures.0 (omega (arith, c.in-Some.ensures)) x y)

@@ -3,4 +3,4 @@ use Rattle.moves.proofs.Pairs.{many_pairs}
 use Rattle.moves.proofs.interchange.InterchangeMoveKind.many.Goals as goal
 
 pub returns : goal.returns
-returns c = omega (arith, many_pairs c.args.units c.args.units 0 (omega arith))
+returns c = rw c.count-n.ensures (omega (arith, many_pairs c.args.units.count c.args.units.count 0 (omega arith)))
