@@ -1,15 +1,13 @@
 -- The texts of commands: the letter tells the kind, and the words tell the rest.
-use Rattle.std.proofs.Common.{◌≡◌, ℕ, ◌^◌, ◌<◌, ◌≤◌, Bool, List, ◌∷◌, length, drop, Some, None, decimal, Option, Result, sym, refl, ap, ◌∙◌, subst, arith, MatchResult}
-use Rattle.std.specs.Option.{ok_or}
+use Rattle.std.proofs.Common.{◌≡◌, ℕ, ◌^◌, ◌<◌, Bool, List, ◌-◌, ◌∷◌, length, take, drop, decimal, slice_index, sym, ap, ◌∙◌, subst, arith}
+use Rattle.std.proofs.lemmas.Slice.{first_rest}
 use Rattle.std.proofs.lemmas.Fmt.{decimal_injective}
 use Rattle.loglines.specs.declared.command.Mark.{Mark}
 use Rattle.loglines.specs.declared.command.YardstickLetter.{YardstickLetter}
 use Rattle.loglines.specs.declared.command.Command.{Command}
 use Rattle.loglines.specs.declared.command.Command.TheVariants.{Open, Pair, Tie, Untie, Rank}
-use Rattle.loglines.specs.declared.fault.LogFault.{LogFault}
-use Rattle.loglines.specs.declared.fault.LogFault.TheVariants as fault
-use Rattle.loglines.specs.Text.{text_of, mark_word, letter_word, Short, OfMark, Numbers, Asks, Form, OneCommand}
-use Rattle.loglines.specs.Readers.{Whole, Front, Both, two_words}
+use Rattle.loglines.specs.Text.{text_of, mark_word, letter_word, Short, OfMark, Numbers, Asks, OneCommand}
+use Rattle.loglines.specs.Readers.{Front, Both, two_words}
 use Rattle.loglines.specs.Spelled.{short_fits, mark_same, letter_same}
 use Rattle.loglines.proofs.Spellings.{decimal_free, mark_free, letter_free}
 use Rattle.loglines.proofs.Fronts.{Telling, last_same, after_first, first_same, two_same}
@@ -76,40 +74,30 @@ one_command (Rank y k) d h j e =
     let p = two_same letters_tell numbers_tell y q.0 k q.1 tt tt h (subst (Numbers Fits) is j) (ap (drop 1) (e ∙ ap text_of is)) in
     (λ i. Rank (p.0 i) (p.1 i)) ∙ sym is
 
-pub text_some : (c : Command) → 0 < length (text_of c)
-text_some c = grind arith
+-- a line by its letter and its words
+pub letter_words : (line : List ℕ) (b : ℕ) → 0 < length line → slice_index line 0 ≡ b → line ≡ b ∷ take (length line - 1) (drop 1 line)
+letter_words line b some is = first_rest line 0 some ∙ ap (λ l. l ∷ take (length line - 1) (drop 1 line)) is
 
 -- where the words are not those of a command with the letter, no command has the text
-module _ (letter : ℕ) (words : List ℕ) (opened : Bool) where
-  with_letter : (b : ℕ) (c : Command) → letter ≡ b → letter ∷ words ≡ text_of c → b ∷ words ≡ text_of c
-  with_letter b c is e = ap (λ l. l ∷ words) (sym is) ∙ e
-
-  pub no_pair : letter ≡ 80 → (a : ℕ) (rest : List ℕ) → Front decimal Short words a rest
-      → ((p : ℕ × Mark) → Both Short (OfMark Short) p → rest ≡ two_words decimal mark_word p → ⊥) → (c : Command) → Asks opened c → letter ∷ words ≡ text_of c → ⊥
+module _ (line words : List ℕ) (opened : Bool) where
+  pub no_pair : line ≡ 80 ∷ words → (a : ℕ) (rest : List ℕ) → Front decimal Short words a rest
+      → ((p : ℕ × Mark) → Both Short (OfMark Short) p → rest ≡ two_words decimal mark_word p → ⊥) → (c : Command) → Asks opened c → line ≡ text_of c → ⊥
   no_pair is a rest h none c asks e =
-      let q = only_pair c words (with_letter 80 c is e) in
+      let q = only_pair c words (sym is ∙ e) in
       let v = subst (Numbers Short) q.3 asks.0 in
-      none (q.1, q.2) (v.1, v.2) (after_first shorts_tell words a rest h q.0 _ v.0 (ap (drop 1) (e ∙ ap text_of q.3)))
+      none (q.1, q.2) (v.1, v.2) (after_first shorts_tell words a rest h q.0 _ v.0 (ap (drop 1) (sym is ∙ e ∙ ap text_of q.3)))
 
-  pub no_tie : letter ≡ 84 → ((p : ℕ × ℕ) → Both Short Short p → words ≡ two_words decimal decimal p → ⊥) → (c : Command) → Asks opened c → letter ∷ words ≡ text_of c → ⊥
+  pub no_tie : line ≡ 84 ∷ words → ((p : ℕ × ℕ) → Both Short Short p → words ≡ two_words decimal decimal p → ⊥) → (c : Command) → Asks opened c → line ≡ text_of c → ⊥
   no_tie is none c asks e =
-      let q = only_tie c words (with_letter 84 c is e) in
-      none (q.0, q.1) (subst (Numbers Short) q.2 asks.0) (ap (drop 1) (e ∙ ap text_of q.2))
+      let q = only_tie c words (sym is ∙ e) in
+      none (q.0, q.1) (subst (Numbers Short) q.2 asks.0) (ap (drop 1) (sym is ∙ e ∙ ap text_of q.2))
 
-  pub no_untie : letter ≡ 70 → ((p : ℕ × ℕ) → Both Short Short p → words ≡ two_words decimal decimal p → ⊥) → (c : Command) → Asks opened c → letter ∷ words ≡ text_of c → ⊥
+  pub no_untie : line ≡ 70 ∷ words → ((p : ℕ × ℕ) → Both Short Short p → words ≡ two_words decimal decimal p → ⊥) → (c : Command) → Asks opened c → line ≡ text_of c → ⊥
   no_untie is none c asks e =
-      let q = only_untie c words (with_letter 70 c is e) in
-      none (q.0, q.1) (subst (Numbers Short) q.2 asks.0) (ap (drop 1) (e ∙ ap text_of q.2))
+      let q = only_untie c words (sym is ∙ e) in
+      none (q.0, q.1) (subst (Numbers Short) q.2 asks.0) (ap (drop 1) (sym is ∙ e ∙ ap text_of q.2))
 
-  pub no_rank : letter ≡ 82 → ((p : YardstickLetter × ℕ) → Both (λ y. Unit {0}) Short p → words ≡ two_words letter_word decimal p → ⊥) → (c : Command) → Asks opened c → letter ∷ words ≡ text_of c → ⊥
+  pub no_rank : line ≡ 82 ∷ words → ((p : YardstickLetter × ℕ) → Both (λ y. Unit {0}) Short p → words ≡ two_words letter_word decimal p → ⊥) → (c : Command) → Asks opened c → line ≡ text_of c → ⊥
   no_rank is none c asks e =
-      let q = only_rank c words (with_letter 82 c is e) in
-      none (q.0, q.1) (tt, subst (Numbers Short) q.2 asks.0) (ap (drop 1) (e ∙ ap text_of q.2))
-
--- a line by its letter and its words
-pub line_read : (line : List ℕ) (letter : ℕ) (words : List ℕ) (opened : Bool) (o : Option Command) (r : Result Command LogFault)
-    → line ≡ letter ∷ words → length line ≤ 64 → Whole text_of (Asks opened) (letter ∷ words) o → r ≡ ok_or o fault.Form
-    → MatchResult r (λ c. Form line opened c) (λ f. (f ≡ fault.Form) × ((c : Command) → Form line opened c → ⊥))
-line_read line letter words opened (Some c) r e short h is =
-    rw is (record { text = e ∙ h.1; short = short; numbers = h.0.0; state = h.0.1 })
-line_read line letter words opened None r e short h is = rw is (refl, λ d f. h d (f.numbers, f.state) (sym e ∙ f.text))
+      let q = only_rank c words (sym is ∙ e) in
+      none (q.0, q.1) (tt, subst (Numbers Short) q.2 asks.0) (ap (drop 1) (sym is ∙ e ∙ ap text_of q.2))

@@ -1,31 +1,10 @@
 -- Cutting an input at its line feeds: what each turn keeps, and that the cut is the only one.
-use Rattle.std.proofs.Common.{◌≡◌, ℕ, suc, ◌+◌, ◌-◌, ◌<◌, ◌≤◌, ◌⊎◌, List, [], ◌∷◌, ◌++◌, length, get_or, take, drop, sym, refl, ap, ◌∙◌, subst, inl, inr, ⊎_elim, append_assoc, append-nil, add-one, arith, length-append, take-append-drop, take_all, drop-cons, get_or-append-add, Bor}
+use Rattle.std.proofs.Common.{◌≡◌, ℕ, ◌+◌, ◌-◌, ◌<◌, ◌⊎◌, List, [], ◌∷◌, ◌++◌, length, get_or, drop, sym, refl, ap, ◌∙◌, inl, inr, ⊎_elim, append_assoc, append-nil, arith, length-append, get_or-append-add}
 use Rattle.std.specs.List.{AllByRecursion}
 use Rattle.std.proofs.slice.Lists.{all_by_recursion_push}
-use Rattle.loglines.specs.Spans.{Spans, Free}
-use Rattle.loglines.specs.Lines.{fed, Unended, Lines, First, texts, OneCut}
-use Rattle.loglines.proofs.Cuts.{span_free, cut_unique}
-
-pub none_left : (s : List ℕ) → length s ≡ 0 → s ≡ []
-none_left [] e = refl
-none_left (b ∷ s) e = absurd (omega arith)
-
--- the first line, by where the first line feed stands
-module _ (rest line tail : List ℕ) (n : ℕ) (sp : Spans 10 rest n) (front : line ≡ take n rest) where
-  pub first_fed : n < length rest → tail ≡ drop (n + 1) rest → First rest line tail
-  first_fed lt after =
-      let next = sp.stops lt in
-      let more : drop (suc n) rest ≡ tail = rw (← add-one) (sym after) in
-      let back : drop n rest ≡ 10 ∷ tail = drop-cons rest n 0 lt ∙ (λ i. next i ∷ more i) in
-      record {
-        feedless = subst (Free 10) (sym front) (span_free 10 rest n sp);
-        whole = inl (sym (take-append-drop n rest) ∙ (λ i. sym front i ++ back i));
-      }
-
-  pub first_unfed : length rest ≤ n → 0 < length rest → tail ≡ [] → First rest line tail
-  first_unfed le some none =
-      let all : line ≡ rest = front ∙ take_all n rest le in
-      record { feedless = subst (Free 10) (sym front) (span_free 10 rest n sp); whole = inr (sym all, none, omega (arith, ap length all)) }
+use Rattle.loglines.specs.Spans.{Free}
+use Rattle.loglines.specs.Lines.{fed, Unended, First, OneCut}
+use Rattle.loglines.proofs.Cuts.{cut_unique}
 
 pub first_less : (rest line tail : List ℕ) → First rest line tail → length tail < length rest
 first_less rest line tail h =
@@ -65,16 +44,6 @@ one_more input ls rest line tail h f = record {
       f.whole)
       (λ e. absurd (omega (arith, first_less _ _ _ f, ap length e.0)))
       h.whole;
-}
-
-pub texts_snoc : (ls : List (Bor (List ℕ))) (l : Bor (List ℕ)) → texts (ls ++ (l ∷ [])) ≡ texts ls ++ (l.now ∷ [])
-texts_snoc [] l = refl
-texts_snoc (k ∷ ls) l = ap (λ t. k.now ∷ t) (texts_snoc ls l)
-
-pub all_cut : (input : List ℕ) (ls : List (List ℕ)) (rest : List ℕ) → Sofar input ls rest → rest ≡ [] → Lines input ls
-all_cut input ls rest h e = record {
-  feedless = h.feedless;
-  whole = ⊎_elim (λ p. inl (sym (append-nil _) ∙ ap (λ t. fed ls ++ t) (sym e) ∙ p)) (λ p. inr (p.1, p.2)) h.whole;
 }
 
 -- lines with their line feeds tell the lines

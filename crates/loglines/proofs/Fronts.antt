@@ -1,10 +1,11 @@
 -- Words at the front of a text. Where words have no space and tell their values, a text is cut into them in one way.
-use Rattle.std.proofs.Common.{◌≡◌, ℕ, ◌<◌, List, [], ◌∷◌, ◌++◌, length, sym, refl, ap, ◌∙◌, append-nil, arith}
+use Rattle.std.proofs.Common.{◌≡◌, ℕ, ◌<◌, List, [], ◌∷◌, ◌++◌, length, Bool, Option, ◌==◌, sym, refl, ap, ◌∙◌, append-nil, false, arith, rules}
+use Rattle.std.specs.Bool.{then_some}
 use Rattle.loglines.specs.declared.token.Token.{Token}
 use Rattle.loglines.specs.Spans.{Free}
-use Rattle.loglines.specs.Words.{bytes, IsWord, Cut, NoWord}
+use Rattle.loglines.specs.Words.{bytes, IsWord, Cut}
 use Rattle.loglines.specs.Text.{spaced}
-use Rattle.loglines.specs.Readers.{Front, NoFront}
+use Rattle.loglines.specs.Readers.{Whole, Front, NoFront}
 use Rattle.loglines.proofs.Cuts.{word_free, cut_unique}
 use Rattle.loglines.proofs.Spellings.{token_word}
 
@@ -15,9 +16,6 @@ pub record Telling {X : Type 0} (f : X → List ℕ) (Valid : X → Type 0) : Ty
 
 pub telling : {X : Type 0} {f : X → List ℕ} {Valid : X → Type 0} → ((x : X) → Valid x → IsWord (f x)) → ((x y : X) → Valid x → Valid y → f x ≡ f y → x ≡ y) → Telling f Valid
 telling word same = record { free = λ x v. word_free _ (word x v); same = same }
-
-pub front_none : {X : Type 0} {f : X → List ℕ} {Valid : X → Type 0} → ((x : X) → Valid x → IsWord (f x)) → (rest : List ℕ) → NoWord rest → NoFront f Valid rest
-front_none word rest none x tail h = none _ tail (word x h.valid) h.stop h.whole
 
 module _ {X : Type 0} {f : X → List ℕ} {Valid : X → Type 0} (law : Telling f Valid) where
   -- the word that stands there writes no such value
@@ -50,13 +48,17 @@ module _ {X : Type 0} {f : X → List ℕ} {Valid : X → Type 0} (law : Telling
   last_one rest x [] h z = (h.valid, h.whole ∙ append-nil (spaced f x))
   last_one rest x (b ∷ s) h z = absurd (omega arith)
 
+  -- the one word of a text, by whether anything follows it
+  pub last_told : (rest : List ℕ) (x : X) (s : List ℕ) (b : Bool) (o : Option X) → Front f Valid rest x s → b ≡ (length s == 0) → o ≡ then_some b x → Whole (spaced f) Valid rest o
+  last_told rest x [] b o h e is = rw (is, e) (last_one rest x [] h refl)
+  last_told rest x (c ∷ s) b o h e is =
+      let more : (length (c ∷ s) == 0) ≡ false = search rules in
+      rw (is, e, more) (last_over rest x (c ∷ s) h (omega arith))
+
   pub last_same : (x y : X) → Valid x → Valid y → spaced f x ≡ spaced f y → x ≡ y
   last_same x y v w e = let same : f x ≡ f y = cc in law.same x y v w same
 
   -- a text of one word and more, which begins with the next word's space
-  pub after_none : (rest : List ℕ) → NoFront f Valid rest → (x : X) (more : List ℕ) → Valid x → rest ≡ spaced f x ++ (32 ∷ more) → ⊥
-  after_none rest none x more v e = none x (32 ∷ more) (record { valid = v; whole = e; stop = λ lt. refl })
-
   pub after_first : (rest : List ℕ) (x : X) (s : List ℕ) → Front f Valid rest x s → (y : X) (more : List ℕ) → Valid y → rest ≡ spaced f y ++ (32 ∷ more) → s ≡ 32 ∷ more
   after_first rest x s h y more v e = (front_unique rest x y s (32 ∷ more) h (record { valid = v; whole = e; stop = λ lt. refl })).1
 

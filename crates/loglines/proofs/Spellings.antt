@@ -1,5 +1,5 @@
 -- Words of one kind are no words of another, and none has a space.
-use Rattle.std.specs.Prelude.{◌≡◌, ℕ, ◌^◌, ◌<◌, List, [], ◌∷◌, length, decimal, ◌≢◌, slice_index, refl}
+use Rattle.std.specs.Prelude.{ℕ, ◌^◌, ◌<◌, List, decimal, ◌≢◌, slice_index, refl}
 use Rattle.std.proofs.Common.{sym, ap, ◌∙◌, inl, inr, arith}
 use Rattle.std.proofs.lemmas.Fmt.{digits_decimal}
 use Rattle.loglines.specs.declared.token.Token.{Token}
@@ -12,12 +12,6 @@ use Rattle.loglines.specs.Words.{bytes, Kind, IsWord, Capital}
 use Rattle.loglines.specs.Text.{mark_word, letter_word, Short, OfMark}
 use Rattle.loglines.proofs.Cuts.{word_free}
 use Rattle.loglines.specs.Spelled.{own, numeral_decimal, short_fits, dash_no_decimal}
-
--- a text of one byte
-pub single : (s : List ℕ) (b : ℕ) → length s ≡ 1 → slice_index s 0 ≡ b → s ≡ b ∷ []
-single [] b one e = absurd (omega arith)
-single (x ∷ []) b one e = ap (λ y. y ∷ []) e
-single (x ∷ y ∷ s) b one e = absurd (omega arith)
 
 pub token_word : (t : Token) → Kind t → IsWord (bytes t)
 token_word (token.Letter s) k = inl k

@@ -1,6 +1,8 @@
 -- Reading line after line: what each turn keeps, and that the readings are the only ones.
 use Rattle.std.proofs.Common.{◌≡◌, ℕ, ◌+◌, ◌^◌, ◌<◌, Bool, false, List, [], ◌∷◌, ◌++◌, length, get_or, take, Ok, Err, sym, refl, ap, ◌∙◌, subst, Bor}
-use Rattle.std.proofs.lemmas.List.{take_more}
+use Rattle.std.specs.List.{fold}
+use Rattle.std.proofs.lemmas.List.{take_more, map-append}
+use Rattle.std.proofs.lemmas.List.Sums.{fold-append}
 use Rattle.loglines.specs.declared.command.Command.{Command}
 use Rattle.loglines.specs.declared.command.Command.TheVariants.{Open, Pair, Tie, Untie, Rank}
 use Rattle.loglines.specs.declared.fault.LogFault.TheVariants as fault
@@ -9,16 +11,11 @@ use Rattle.loglines.specs.Lines.{texts}
 use Rattle.loglines.specs.Readings.{Reading, Sized, Reads, open_after, Readings, OneReading}
 use Rattle.loglines.specs.Spelled.{short_fits, mark_fits}
 use Rattle.loglines.proofs.Commands.{one_command}
-use Rattle.loglines.proofs.Feeds.{texts_snoc, one_cut}
+use Rattle.loglines.proofs.Feeds.{one_cut}
 
 -- whether a sheet is open after some readings
 abbrev pub opened_by : Bool → List Reading → Bool
-opened_by o [] = o
-opened_by o (r ∷ rs) = opened_by (open_after o r) rs
-
-pub opened_snoc : (o : Bool) (rs : List Reading) (r : Reading) → opened_by o (rs ++ (r ∷ [])) ≡ open_after (opened_by o rs) r
-opened_snoc o [] r = refl
-opened_snoc o (q ∷ rs) r = opened_snoc (open_after o q) rs r
+opened_by o rs = fold open_after o rs
 
 pub readings_snoc : (o : Bool) (ls : List (List ℕ)) (rs : List Reading) (l : List ℕ) (r : Reading) → Readings o ls rs → Reads (opened_by o rs) l r → Readings o (ls ++ (l ∷ [])) (rs ++ (r ∷ []))
 readings_snoc o [] [] l r h k = (k, tt)
@@ -31,12 +28,12 @@ pub read_more : (lines : List (Bor (List ℕ))) (d : Bor (List ℕ)) (i : ℕ) (
     → i < length lines → Readings false (texts (take i lines)) rs × (o ≡ opened_by false rs) → Reads o (get_or lines i d).now r
     → after ≡ rs ++ (r ∷ []) → p ≡ open_after o r → Readings false (texts (take (i + 1) lines)) after × (p ≡ opened_by false after)
 read_more lines d i rs after r o p lt inv reads pushed is =
-    let one = ap texts (take_more lines i d lt) ∙ texts_snoc (take i lines) (get_or lines i d) in
+    let one = ap texts (take_more lines i d lt) ∙ map-append (λ l. l.now) (take i lines) (get_or lines i d ∷ []) in
     let read = readings_snoc false (texts (take i lines)) rs (get_or lines i d).now r inv.0 (subst (λ b. Reads b (get_or lines i d).now r) inv.1 reads) in
     let back = sym one in
     let made = sym pushed in (
       subst (λ ls. Readings false ls after) back (subst (Readings false _) made read),
-      is ∙ ap (λ b. open_after b r) inv.1 ∙ sym (opened_snoc false rs r) ∙ ap (opened_by false) made,
+      is ∙ ap (λ b. open_after b r) inv.1 ∙ sym (fold-append open_after false rs (r ∷ [])) ∙ ap (opened_by false) made,
     )
 
 numbers_fit : (c : Command) → Numbers Short c → Numbers (λ n. n < 2 ^ 64) c

@@ -1,5 +1,5 @@
 -- A log cut into lines at its line feeds.
-use Rattle.std.specs.Prelude.{◌≡◌, ℕ, ◌-◌, ◌<◌, ◌≤◌, ◌⊎◌, List, [], ◌∷◌, ◌++◌, length, slice_index_or}
+use Rattle.std.specs.Prelude.{◌≡◌, ℕ, ◌-◌, ◌<◌, ◌≤◌, ◌⊎◌, List, [], ◌∷◌, ◌++◌, length, map, slice_index_or}
 use Rattle.std.specs.Borrow.{Bor}
 use Rattle.std.specs.List.{AllByRecursion}
 use Rattle.loglines.specs.declared.fault.LogFault.TheVariants as fault
@@ -29,8 +29,7 @@ pub record First (rest line tail : List ℕ) : Type 0 where
 
 -- the bytes of borrowed lines
 abbrev pub texts : List (Bor (List ℕ)) → List (List ℕ)
-texts [] = []
-texts (l ∷ ls) = l.now ∷ texts ls
+texts ls = map (λ l. l.now) ls
 
 -- an input that is not cut: it is too long, or there is no memory for its lines
 abbrev pub Uncut : List ℕ → LogError → Type 0

@@ -1,5 +1,6 @@
 -- Texts cut at a byte.
-use Rattle.std.specs.Prelude.{◌≡◌, ℕ, ◌<◌, ◌≤◌, cond, List, [], ◌∷◌, length, ◌==◌, ◌≢◌, slice_index}
+use Rattle.std.specs.Prelude.{◌≡◌, ℕ, ◌<◌, ◌≤◌, List, length, ◌==◌, ◌≢◌, slice_index}
+use Rattle.std.specs.List.{slice_split}
 
 -- the first stop of s stands at n, or s has none and n bytes
 pub record Spans (stop : ℕ) (s : List ℕ) (n : ℕ) : Type 0 where
@@ -15,12 +16,6 @@ Free stop s = (i : ℕ) → i < length s → slice_index s i ≢ stop
 abbrev pub Stopped : ℕ → List ℕ → Type 0
 Stopped stop s = 0 < length s → slice_index s 0 ≡ stop
 
--- one byte more before the first of some texts
-abbrev pub onto_first : ℕ → List (List ℕ) → List (List ℕ)
-onto_first b [] = (b ∷ []) ∷ []
-onto_first b (p ∷ ps) = (b ∷ p) ∷ ps
-
 -- the parts of a text between its stops: one more than it has stops
 abbrev pub parts : ℕ → List ℕ → List (List ℕ)
-parts stop [] = [] ∷ []
-parts stop (b ∷ s) = cond (b == stop) ([] ∷ parts stop s) (onto_first b (parts stop s))
+parts stop s = slice_split (λ b. b == stop) s

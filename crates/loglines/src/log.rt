@@ -28,7 +28,8 @@ pub fn next_line(rest: &[u8]) -> Option<(&[u8], &[u8])>
 
 // The lines of an input of at most 32,768 bytes, without their line feeds.
 // A last line that has no line feed counts if it has a byte.
-pub fn lines<'a>(heap: Global, input: &'a [u8]) -> Result<Vec<&'a [u8]>, LogError>
+// A loop over `next_line`, since an iterator of its own says the same in more lines.
+pub fn lines(heap: Global, input: &[u8]) -> Result<Vec<&[u8]>, LogError>
     ensures { MatchResult result (λ v. (length input.now ≤ 32768) × Lines input.now (texts v.items)) (λ e. Uncut input.now e) }
 {
     if input.len() > LONGEST_LOG {
@@ -47,10 +48,7 @@ pub fn lines<'a>(heap: Global, input: &'a [u8]) -> Result<Vec<&'a [u8]>, LogErro
 fn open_after(opened: bool, reading: Reading) -> bool
     ensures { result ≡ open_after opened reading }
 {
-    match reading {
-        Ok(Command::Open { .. }) => true,
-        _ => opened,
-    }
+    opened || matches!(reading, Ok(Command::Open { .. }))
 }
 
 // What each line asks for, in the state that the lines before it leave. No sheet is open before the first.
@@ -68,6 +66,7 @@ fn read_lines(heap: Global, lines: &[&[u8]]) -> Result<Vec<Reading>, AllocError>
 }
 
 // What the lines of a whole log ask for, one reading for each line.
+#[tactic(auto, using(crate::proofs::Commands::one_command))]
 pub fn read_log(heap: Global, input: &[u8]) -> Result<Vec<Reading>, LogError>
     ensures read { MatchResult result (λ v. LogRead input.now v.items) (λ e. Uncut input.now e) }
     ensures one_command { OneCommand }

@@ -1,4 +1,4 @@
-ghost use Rattle.std.specs.Prelude.{◌≡◌, ◌∷◌, MatchResult};
+ghost use Rattle.std.specs.Prelude.{◌≡◌, MatchResult};
 ghost use Rattle.loglines.specs.Text.{text_of, Form, Asks};
 ghost use Rattle.loglines.specs.Readers.{Whole};
 ghost use Rattle.loglines.specs.Readings.{Sized, Reads};
@@ -10,30 +10,30 @@ use crate::value::{last_two, last_value, next_value};
 // The longest line that has a form.
 pub const LONGEST_LINE: usize = 64;
 
-// The command with this letter and these words, if the session's state has it.
-fn command(letter: u8, words: &[u8], opened: bool) -> Option<Command>
-    ensures { Whole text_of (Asks opened) (letter ∷ words.now) result }
+// The command that a line writes, if the session's state has it.
+fn command(line: &[u8], opened: bool) -> Option<Command>
+    ensures { Whole text_of (Asks opened) line.now result }
 {
-    match (letter, opened) {
-        (b'U', false) => {
-            let units = last_value(words, 1)?;
+    match (line, opened) {
+        ([b'U', words @ ..], false) => {
+            let units = last_value(words)?;
             Some(Command::Open { units })
         }
-        (b'P', true) => {
-            let (a, rest) = next_value(words, 1)?;
-            let (b, mark) = last_two(rest, 2)?;
+        ([b'P', words @ ..], true) => {
+            let (a, rest) = next_value(words)?;
+            let (b, mark) = last_two(rest)?;
             Some(Command::Pair { a, b, mark })
         }
-        (b'T', true) => {
-            let (a, b) = last_two(words, 1)?;
+        ([b'T', words @ ..], true) => {
+            let (a, b) = last_two(words)?;
             Some(Command::Tie { a, b })
         }
-        (b'F', true) => {
-            let (a, b) = last_two(words, 1)?;
+        ([b'F', words @ ..], true) => {
+            let (a, b) = last_two(words)?;
             Some(Command::Untie { a, b })
         }
-        (b'R', true) => {
-            let (by, number) = last_two(words, 1)?;
+        ([b'R', words @ ..], true) => {
+            let (by, number) = last_two(words)?;
             Some(Command::Rank { by, number })
         }
         _ => None,
@@ -41,16 +41,14 @@ fn command(letter: u8, words: &[u8], opened: bool) -> Option<Command>
 }
 
 // What a line asks for, in a session that has a sheet or has none.
+// The state of a session is a flag, since all that a line's form depends on is whether a sheet is open.
 pub fn read(line: &[u8], opened: bool) -> Result<Command, LogFault>
     ensures { MatchResult result (λ c. Form line.now opened c) (λ f. (f ≡ LogFault.Form) × ((c : Command) → Form line.now opened c → ⊥)) }
 {
     if line.len() > LONGEST_LINE {
         return Err(LogFault::Form);
     }
-    let [letter, words @ ..] = line else {
-        return Err(LogFault::Form);
-    };
-    command(*letter, words, opened).ok_or(LogFault::Form)
+    command(line, opened).ok_or(LogFault::Form)
 }
 
 // What a line asks for, or why it is refused.
@@ -61,7 +59,7 @@ fn sized(command: Command) -> Result<Command, LogFault>
     ensures { MatchResult result (λ c. (c ≡ command) × Sized command) (λ f. (f ≡ LogFault.Size) × (Sized command → ⊥)) }
 {
     match command {
-        Command::Open { units } if units < 2 || units > 11 => Err(LogFault::Size),
+        Command::Open { units } if !(2..=11).contains(&units) => Err(LogFault::Size),
         _ => Ok(command),
     }
 }

@@ -1,7 +1,7 @@
-ghost use Rattle.std.specs.Prelude.{◌≡◌, ◌≤◌, true, false, length, MatchOption};
+ghost use Rattle.std.specs.Prelude.{◌≡◌, ◌↔◌, IsTrue, MatchOption};
 ghost use Rattle.std.specs.Str.Parse.{digits_value};
 ghost use Rattle.loglines.specs.Spans.{Spans};
-ghost use Rattle.loglines.specs.Words.{AllDigits, IsWord, Tells};
+ghost use Rattle.loglines.specs.Words.{AllDigits, Numeral, IsWord, Tells};
 
 use crate::token::Token;
 
@@ -9,37 +9,22 @@ use crate::token::Token;
 pub(crate) fn span(s: &[u8], stop: u8) -> usize
     ensures { Spans stop s.now result }
 {
-    for (i, b) in s.iter().enumerate() {
-        if *b == stop {
-            return i;
-        }
-    }
-    s.len()
+    s.iter().position(|b| *b == stop).unwrap_or(s.len())
 }
 
 // Whether every byte of `s` is a digit.
 fn all_digits(s: &[u8]) -> bool
-    ensures yes { result ≡ true → AllDigits s.now }
-    ensures not { result ≡ false → AllDigits s.now → ⊥ }
+    ensures { IsTrue result ↔ AllDigits s.now }
 {
-    for b in s {
-        if !b.is_ascii_digit() {
-            return false;
-        }
-    }
-    true
+    s.iter().all(u8::is_ascii_digit)
 }
 
-// The number that at most 19 digits write.
-pub(crate) fn number(s: &[u8]) -> u64
-    requires { (AllDigits s.now) × (length s.now ≤ 19) }
-    ensures { result ≡ digits_value 10 s.now }
+// The number that a number word writes.
+pub(crate) fn number(word: &[u8]) -> u64
+    requires { Numeral word.now }
+    ensures { result ≡ digits_value 10 word.now }
 {
-    let mut n: u64 = 0;
-    for b in s {
-        n = n * 10 + u64::from(*b - b'0');
-    }
-    n
+    str::from_utf8(word).unwrap().parse().unwrap()
 }
 
 // The word that the bytes of `s` are, if they are one.

@@ -1,5 +1,5 @@
 // A word of a line, by its kind. Each case lends the word's bytes from the line.
-#[derive(Clone, Copy)]
+#[derive(Clone, Copy, PartialEq, Eq, Debug)]
 pub enum Token<'a> {
     // one capital letter
     Letter(&'a [u8]),
@@ -10,7 +10,7 @@ pub enum Token<'a> {
 }
 
 // A word and its place in its line: 1 is the first word after the line's letter.
-#[derive(Clone, Copy)]
+#[derive(Clone, Copy, PartialEq, Eq, Debug)]
 pub struct Word<'a> {
     pub token: Token<'a>,
     pub place: usize,

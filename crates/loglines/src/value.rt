@@ -1,4 +1,4 @@
-ghost use Rattle.std.specs.Prelude.{◌≡◌, ℕ, ◌<◌, List, decimal, MatchOption};
+ghost use Rattle.std.specs.Prelude.{◌≡◌, ℕ, List, decimal, MatchOption};
 ghost use Rattle.loglines.specs.Words.{IsWord, Kind, bytes};
 ghost use Rattle.loglines.specs.Text.{mark_word, letter_word, spaced, Short, OfMark};
 ghost use Rattle.loglines.specs.Readers.{Whole, Front, NoFront, Both, two_words};
@@ -75,41 +75,35 @@ impl WordValue for YardstickLetter {
     ghost same = { λ x y _ _ e. letter_same x y e };
 
     fn from_token(token: Token) -> Option<YardstickLetter> {
-        let Token::Letter(s) = token else {
-            return None;
-        };
-        match s {
-            b"S" => Some(YardstickLetter::Spread),
-            b"G" => Some(YardstickLetter::Gradient),
-            b"T" => Some(YardstickLetter::Target),
+        match token {
+            Token::Letter(b"S") => Some(YardstickLetter::Spread),
+            Token::Letter(b"G") => Some(YardstickLetter::Gradient),
+            Token::Letter(b"T") => Some(YardstickLetter::Target),
             _ => None,
         }
     }
 }
 
 // The value that the next word writes, and what follows that word.
-pub(crate) fn next_value<'a, V: WordValue>(rest: &'a [u8], place: usize) -> Option<(V, &'a [u8])>
+pub(crate) fn next_value<V: WordValue>(rest: &[u8]) -> Option<(V, &[u8])>
     ensures { MatchOption result (NoFront V.WordValue.spelled V.WordValue.valid rest.now) (λ p. Front V.WordValue.spelled V.WordValue.valid rest.now p.0 p.1.now) }
 {
-    let (word, tail) = next_word(rest, place)?;
-    let x = V::from_token(word.token)?;
-    Some((x, tail))
+    let (token, tail) = next_word(rest)?;
+    Some((V::from_token(token)?, tail))
 }
 
 // The value that the next word writes, where nothing follows that word.
-pub(crate) fn last_value<V: WordValue>(rest: &[u8], place: usize) -> Option<V>
+pub(crate) fn last_value<V: WordValue>(rest: &[u8]) -> Option<V>
     ensures { Whole (spaced V.WordValue.spelled) V.WordValue.valid rest.now result }
 {
-    let (x, tail) = next_value(rest, place)?;
-    if tail.is_empty() { Some(x) } else { None }
+    let (x, tail) = next_value(rest)?;
+    tail.is_empty().then_some(x)
 }
 
 // The values that the next two words write, where nothing follows those words.
-pub(crate) fn last_two<V: WordValue, W: WordValue>(rest: &[u8], place: usize) -> Option<(V, W)>
-    requires { place < 64 }
+pub(crate) fn last_two<V: WordValue, W: WordValue>(rest: &[u8]) -> Option<(V, W)>
     ensures { Whole (two_words V.WordValue.spelled W.WordValue.spelled) (Both V.WordValue.valid W.WordValue.valid) rest.now result }
 {
-    let (x, tail) = next_value(rest, place)?;
-    let y = last_value(tail, place + 1)?;
-    Some((x, y))
+    let (x, tail) = next_value(rest)?;
+    Some((x, last_value(tail)?))
 }

@@ -1,17 +1,12 @@
 -- A report is listed line by line, and a log has one report.
-use Rattle.std.proofs.Common.{◌≡◌, ℕ, suc, ◌+◌, ◌<◌, List, [], ◌∷◌, ◌++◌, length, get_or, take, decimal, sym, refl, ap, ◌∙◌, subst, inl, inr, append_assoc, arith, length-take-le}
+use Rattle.std.proofs.Common.{◌≡◌, ℕ, suc, ◌+◌, ◌<◌, List, [], ◌∷◌, ◌++◌, length, get_or, take, decimal, sym, refl, ap, ◌∙◌, inl, inr, append_assoc, arith, length-take-le}
 use Rattle.std.proofs.lemmas.List.{take_more}
-use Rattle.loglines.specs.declared.fault.LogFault.{LogFault}
-use Rattle.loglines.specs.declared.fault.LogFault.TheVariants as fault
-use Rattle.loglines.specs.declared.fault.LogError.{LogError}
-use Rattle.loglines.specs.declared.fault.LogError.TheVariants as error
-use Rattle.loglines.specs.Lines.{Uncut}
 use Rattle.loglines.specs.Readings.{Reading}
 use Rattle.loglines.proofs.States.{one_reading}
 use Rattle.logreport.specs.declared.count.Kind.{Kind}
 use Rattle.logreport.specs.Counts.{kind_words, count_of}
 use Rattle.logreport.specs.Said.{said}
-use Rattle.logreport.specs.Reports.{listing, totals, summary, refusal, OneReport}
+use Rattle.logreport.specs.Reports.{listing, totals, summary, OneReport}
 
 listing_push : (n : ℕ) (rs : List Reading) (r : Reading) → listing n (rs ++ (r ∷ [])) ≡ listing n rs ++ (said (n + length rs) r ++ (10 ∷ []))
 listing_push n [] r = ap (λ k. said k r ++ (10 ∷ [])) (omega arith)
@@ -34,11 +29,11 @@ totals_push [] k rs = refl
 totals_push (j ∷ ks) k rs = rw (totals_push ks k rs) (simp append_assoc)
 
 -- one kind more
-pub totals_more : (before out after : List ℕ) (ks : List Kind) (rs : List Reading) (i : ℕ) (d : Kind) (name : List ℕ) (n : ℕ) → i < length ks
-    → out ≡ before ++ totals (take i ks) rs → name ≡ kind_words (get_or ks i d) → n ≡ count_of (get_or ks i d) rs
-    → after ≡ out ++ (name ++ (32 ∷ (decimal n ++ (10 ∷ [])))) → after ≡ before ++ totals (take (i + 1) ks) rs
-totals_more before out after ks rs i d name n lt sofar named is wrote =
-    wrote ∙ (λ j. sofar j ++ (named j ++ (32 ∷ (decimal (is j) ++ (10 ∷ [])))))
+pub totals_more : (before out after : List ℕ) (ks : List Kind) (rs : List Reading) (i : ℕ) (d : Kind) (n : ℕ) → i < length ks
+    → out ≡ before ++ totals (take i ks) rs → n ≡ count_of (get_or ks i d) rs
+    → after ≡ out ++ (kind_words (get_or ks i d) ++ (32 ∷ (decimal n ++ (10 ∷ [])))) → after ≡ before ++ totals (take (i + 1) ks) rs
+totals_more before out after ks rs i d n lt sofar is wrote =
+    wrote ∙ (λ j. sofar j ++ (kind_words (get_or ks i d) ++ (32 ∷ (decimal (is j) ++ (10 ∷ [])))))
     ∙ append_assoc before (totals (take i ks) rs) (kind_words (get_or ks i d) ++ (32 ∷ (decimal (count_of (get_or ks i d) rs) ++ (10 ∷ []))))
     ∙ ap (λ t. before ++ t) (sym (totals_push (take i ks) (get_or ks i d) rs) ∙ ap (λ l. totals l rs) (sym (take_more ks i d lt)))
 
@@ -47,12 +42,3 @@ one_report input a b (inl h) (inl k) = h.2 ∙ ap (λ rs. listing 1 rs ++ summar
 one_report input a b (inl h) (inr k) = absurd (omega (arith, h.1.few, k.0))
 one_report input a b (inr h) (inl k) = absurd (omega (arith, k.1.few, h.0))
 one_report input a b (inr h) (inr k) = h.1 ∙ sym k.1
-
--- a log is refused whole only where it is too long
-refused_long : (input : List ℕ) (f : LogFault) → Uncut input (error.Refused f) → (32768 < length input) × (refusal f ≡ refusal fault.Long)
-refused_long input fault.Size h = absurd h
-refused_long input fault.Form h = absurd h
-refused_long input fault.Long h = (h, refl)
-
-pub long_refused : (input out : List ℕ) (e : LogError) → Uncut input e → (f : LogFault) × (e ≡ error.Refused f) × (out ≡ refusal f) → (32768 < length input) × (out ≡ refusal fault.Long)
-long_refused input out e h told = let p = refused_long input told.0 (subst (Uncut input) told.1 h) in (p.0, told.2 ∙ p.1)

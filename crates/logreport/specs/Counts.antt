@@ -1,5 +1,5 @@
 -- How many lines of a log are of each kind.
-use Rattle.std.specs.Prelude.{◌≡◌, ℕ, ◌+◌, cond, List, [], ◌∷◌, length, Ok, Err, codes, ◌==◌}
+use Rattle.std.specs.Prelude.{◌≡◌, ℕ, ◌+◌, List, [], ◌∷◌, length, Ok, Err, codes, count_by, ◌==◌}
 use Rattle.loglines.specs.declared.command.Mark.TheVariants as mark
 use Rattle.loglines.specs.declared.command.Command.TheVariants as command
 use Rattle.loglines.specs.Readings.{Reading}
@@ -27,8 +27,7 @@ tag Refusal = 6
 
 -- how many readings are of a kind
 abbrev pub count_of : Kind → List Reading → ℕ
-count_of k [] = 0
-count_of k (r ∷ rs) = cond (tag (kind_of r) == tag k) 1 0 + count_of k rs
+count_of k rs = count_by (λ r. tag (kind_of r) == tag k) rs
 
 -- the kinds, in the order of a report, and their names there
 abbrev pub kinds : List Kind

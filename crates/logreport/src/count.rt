@@ -1,11 +1,12 @@
-ghost use Rattle.std.specs.Prelude.{◌≡◌};
+ghost use Rattle.std.specs.Prelude.{◌≡◌, Some};
 ghost use Rattle.logreport.specs.Counts.{kind_of, kind_words, count_of};
 
 use loglines::command::{Command, Mark};
 use loglines::read::Reading;
+use std::fmt;
 
 // The kinds of line that a report counts.
-#[derive(Clone, Copy, PartialEq, Eq)]
+#[derive(Clone, Copy, PartialEq, Eq, Debug)]
 pub enum Kind {
     Opening,
     Number,
@@ -16,7 +17,44 @@ pub enum Kind {
     Refusal,
 }
 
-// The kind of a line, by what was read of it.
+impl Kind {
+    // The kinds in the order of a report.
+    pub const ALL: [Kind; 7] = [
+        Kind::Opening,
+        Kind::Number,
+        Kind::Gap,
+        Kind::Tie,
+        Kind::Untie,
+        Kind::Ranking,
+        Kind::Refusal,
+    ];
+
+    // The kind's name in a report.
+    pub fn words(self) -> &'static str
+        ensures { result.now ≡ kind_words self }
+    {
+        match self {
+            Kind::Opening => "sheets opened",
+            Kind::Number => "marks written",
+            Kind::Gap => "gaps",
+            Kind::Tie => "ties",
+            Kind::Untie => "ties taken away",
+            Kind::Ranking => "rankings asked",
+            Kind::Refusal => "refusals",
+        }
+    }
+}
+
+// A kind is shown by its name.
+impl fmt::Display for Kind {
+    ghost output = { λ x. Some (kind_words x) };
+
+    fn fmt<W: fmt::Write>(&self, f: &mut fmt::Formatter<W>) -> fmt::Result {
+        f.write_str(self.words())
+    }
+}
+
+// The kind of a line, by what was read of it. It is no conversion, since a kind drops what the line asks for.
 pub fn kind_of(reading: Reading) -> Kind
     ensures { result ≡ kind_of reading }
 {
@@ -45,28 +83,5 @@ pub fn kind_of(reading: Reading) -> Kind
 pub fn count(readings: &[Reading], wanted: Kind) -> usize
     ensures { result ≡ count_of wanted readings.now }
 {
-    let mut n = 0;
-    for reading in readings {
-        if kind_of(*reading) == wanted {
-            n += 1;
-        }
-    }
-    n
-}
-
-impl Kind {
-    // The kind's name in a report.
-    pub fn words(self) -> &'static str
-        ensures { result.now ≡ kind_words self }
-    {
-        match self {
-            Kind::Opening => "sheets opened",
-            Kind::Number => "marks written",
-            Kind::Gap => "gaps",
-            Kind::Tie => "ties",
-            Kind::Untie => "ties taken away",
-            Kind::Ranking => "rankings asked",
-            Kind::Refusal => "refusals",
-        }
-    }
+    readings.iter().filter(|r| kind_of(**r) == wanted).count()
 }

@@ -5,8 +5,8 @@ use loglines::command::{Command, Mark, YardstickLetter};
 use loglines::read::Reading;
 use std::fmt;
 
-// A yardstick by its name.
-#[derive(Clone, Copy)]
+// A yardstick by its name. A wrapper, since the letter's own text is what a log writes for it.
+#[derive(Clone, Copy, PartialEq, Eq, Debug)]
 pub struct Name(pub YardstickLetter);
 
 impl fmt::Display for Name {
@@ -21,8 +21,8 @@ impl fmt::Display for Name {
     }
 }
 
-// What a command asks, in plain words.
-#[derive(Clone, Copy)]
+// What a command asks, in plain words. A wrapper, since the command's own text is its line in a log.
+#[derive(Clone, Copy, PartialEq, Eq, Debug)]
 pub struct Asked(pub Command);
 
 impl fmt::Display for Asked {
@@ -49,7 +49,7 @@ impl fmt::Display for Asked {
 }
 
 // What is said of a line: its number in the log, and what it asks or by which number it is refused.
-#[derive(Clone, Copy)]
+#[derive(Clone, Copy, PartialEq, Eq, Debug)]
 pub struct Said {
     pub line: usize,
     pub reading: Reading,

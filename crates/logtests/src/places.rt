@@ -1,45 +1,26 @@
-use loglines::token::Token;
+use loglines::token::{Token, Word};
 use loglines::words::word;
 
-// The digits at a place of a line.
-fn digits(line: &[u8], place: usize) -> Option<&[u8]> {
-    let found = word(line, place)?;
-    match found.token {
-        Token::Digits(s) if found.place == place => Some(s),
-        _ => None,
-    }
-}
-
-// Whether a letter, or the dash, stands at a place of a line.
-fn letter(line: &[u8], place: usize) -> bool {
-    match word(line, place) {
-        Some(found) => matches!(found.token, Token::Letter(_)),
-        None => false,
-    }
-}
-
-fn dash(line: &[u8], place: usize) -> bool {
-    match word(line, place) {
-        Some(found) => matches!(found.token, Token::Dash(_)),
-        None => false,
-    }
+// The word that is wanted at a place.
+fn at(place: usize, token: Token<'_>) -> Option<Word<'_>> {
+    Some(Word { token, place })
 }
 
 #[test]
 fn words_by_place(rt: HostRuntime) {
     let line = b"P 1 20 -";
-    assert!(rt; letter(line, 0));
-    assert!(rt; digits(line, 1) == Some(b"1"));
-    assert!(rt; digits(line, 2) == Some(b"20"));
-    assert!(rt; dash(line, 3));
-    assert!(rt; word(line, 4).is_none());
+    assert_eq!(rt; word(line, 0), at(0, Token::Letter(b"P")));
+    assert_eq!(rt; word(line, 1), at(1, Token::Digits(b"1")));
+    assert_eq!(rt; word(line, 2), at(2, Token::Digits(b"20")));
+    assert_eq!(rt; word(line, 3), at(3, Token::Dash(b"-")));
+    assert_eq!(rt; word(line, 4), None);
 }
 
 #[test]
 fn no_words(rt: HostRuntime) {
-    assert!(rt; word(b"", 0).is_none());
-    assert!(rt; word(b"U  3", 1).is_none());
-    assert!(rt; digits(b"U  3", 2) == Some(b"3"));
-    assert!(rt; word(b"U 03", 1).is_none());
-    assert!(rt; word(b"U 3", 18_446_744_073_709_551_615).is_none());
+    assert_eq!(rt; word(b"", 0), None);
+    assert_eq!(rt; word(b"U  3", 1), None);
+    assert_eq!(rt; word(b"U  3", 2), at(2, Token::Digits(b"3")));
+    assert_eq!(rt; word(b"U 03", 1), None);
+    assert_eq!(rt; word(b"U 3", 18_446_744_073_709_551_615), None);
 }

@@ -5,7 +5,6 @@ ghost use Rattle.rules.specs.Pattern.{kept_at, triples_at, triples_from, kept};
 ghost use Rattle.marks.specs.Numbers.{units_of, numbers_of};
 ghost use Rattle.scaling.specs.Compared.{Compares};
 
-use crate::orders::order_of;
 use marks::marks::Marks;
 use marks::units::Units;
 
@@ -88,7 +87,7 @@ fn all_comparisons(units: Units) -> u32
 pub fn comparisons(marks: &Marks, row: &[u8]) -> Option<(u32, u32)>
     ensures { Compares marks.now row.now result }
 {
-    let labels = order_of(marks, row)?;
+    let labels = marks.order_in(row)?;
     let kept = Row { marks, labels }.kept();
     Some((kept, all_comparisons(marks.size()) - kept))
 }

@@ -7,7 +7,6 @@ ghost use Rattle.rules.specs.Scaling.{square, displacements};
 ghost use Rattle.marks.specs.Numbers.{units_of, numbers_of};
 ghost use Rattle.scaling.specs.Scaled.{Scales};
 
-use crate::orders::order_of;
 use marks::marks::Marks;
 use marks::sets::with_unit;
 use marks::units::Units;
@@ -87,7 +86,7 @@ pub fn coordinates(marks: &Marks, row: &[u8], list: &mut [i64]) -> Option<i64>
     if list.len() < marks.units() {
         return None;
     }
-    let order = order_of(marks, row)?;
+    let order = marks.order_in(row)?;
     let displaced = displace(marks, order, list);
     Some(difference(marks.size(), squared_marks(marks), displaced))
 }

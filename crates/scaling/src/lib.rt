@@ -3,4 +3,3 @@
 
 pub mod comparisons;
 pub mod coordinates;
-mod orders;

@@ -1,13 +1,12 @@
 -- One cell of the tables: the greatest total and its count, one unit after another, from the cells of larger sets.
 use Rattle.std.proofs.Common.{◌≡◌, ℕ, ◌+◌, ◌-◌, ◌^◌, ◌<◌, ◌≤◌, Bool, true, false, cond, List, [], ◌∷◌, ◌++◌, map, length, get_or, ℤ, filter, sym, refl, ap, ◌∙◌, subst, subst₂, inl, inr, add-one, arith}
-use Rattle.std.specs.Option.{unwrap_or}
 use Rattle.std.proofs.lemmas.Bool.{both_ways, cases_eq, cond-true}
 use Rattle.rules.specs.Units.{label, labels, has, with_unit, size, sum_over}
 use Rattle.rules.specs.Yardsticks.{Merit, Lawful, Within, Low, Symmetric, zeros}
 use Rattle.rules.specs.Orders.{ready, ready_units, closed, circular}
 use Rattle.rules.specs.Ranking.{best, listed, greatest, total_cell, count_cell}
 use Rattle.rules.specs.Recurrence.{led, Searches}
-use Rattle.rules.proofs.Sets.{label_from, label_low, label_high, with_below, with_above, size_many, many_low, size_with}
+use Rattle.rules.proofs.Sets.{label_from, with_below, with_above, size_many, many_low, size_with}
 use Rattle.rules.proofs.Members.{In, in_right, filter_in, labels_in}
 use Rattle.rules.proofs.Lists.{sum_append}
 use Rattle.rules.proofs.Ways.{ready_out, ready_in, in_ready}

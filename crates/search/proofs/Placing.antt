@@ -98,8 +98,10 @@ module _ (tied : ℕ → ℕ → Bool) (n : ℕ) where
       → ((r ≡ true) ↔ ((o : List ℕ) × (Order n o × Keeps tied o))) × (r ≡ not (circular tied n))
   meant proper r e =
       let w = no_circle tied n proper in
-      let order : (r ≡ true) ↔ ((o : List ℕ) × (Order n o × Keeps tied o)) = (λ h. w.1.1 (sym e ∙ h), λ o. e ∙ w.1.0 o) in
-      (order, elim (cases_Bool r) [
-        | inl h ↦ h ∙ sym (ap not (w.0.0 (order.0 h)))
-        | inr h ↦ h ∙ sym (ap not (forced (circular tied n) (λ q. both_ways r h (order.1 (w.0.1 q)))))
-      ])
+      let order : (r ≡ true) ↔ ((o : List ℕ) × (Order n o × Keeps tied o)) = (λ h. w.1.1 (sym e ∙ h), λ o. e ∙ w.1.0 o) in (
+        order,
+        elim (cases_Bool r) [
+          | inl h ↦ h ∙ sym (ap not (w.0.0 (order.0 h)))
+          | inr h ↦ h ∙ sym (ap not (forced (circular tied n) (λ q. both_ways r h (order.1 (w.0.1 q)))))
+        ],
+      )

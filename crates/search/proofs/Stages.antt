@@ -29,7 +29,10 @@ module _ {S T : Type 0} {y : Ghosts S T} (law : Lawful (merit_of y)) (s : Stage 
   pub same_ready : (j : ℕ) (b : Bool) → b ≡ ready (tied_of t) (tied_units t) s.placed j → b ≡ ready (tied_of t) (units_of m) s.placed j
   same_ready j b e = e ∙ ap (λ (k : ℕ). ready (tied_of t) k s.placed j) s.tables.sheet.sound.same
 
-  module _ (j : ℕ) (unit : label (units_of m) j ≡ true) (free : ready (tied_of t) (units_of m) s.placed j ≡ true) where
+  module _ (j : ℕ) (unit : label (units_of m) j ≡ true) (may : true ≡ ready (tied_of t) (tied_units t) s.placed j) where
+    free : ready (tied_of t) (units_of m) s.placed j ≡ true
+    free = sym (same_ready j true may)
+
     next : Next m t s.placed j
     next = record { unit = unit; free = free }
 

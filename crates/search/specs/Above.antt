@@ -1,5 +1,5 @@
 -- Tables over sets that are filled from the full set down to some set.
-use Rattle.std.specs.Prelude.{◌≡◌, ℕ, ◌+◌, ◌^◌, ◌<◌, ◌≤◌, Bool, true, false, cond, List, length, ℤ, Option, Some, None, slice_index, slice_index_or}
+use Rattle.std.specs.Prelude.{◌≡◌, ℕ, ◌^◌, ◌<◌, ◌≤◌, Bool, true, false, List, length, ℤ, slice_index, slice_index_or}
 use Rattle.rules.specs.Units.{with_unit}
 use Rattle.rules.specs.Yardsticks.{Merit}
 use Rattle.rules.specs.Orders.{ready, circular}

@@ -3,3 +3,4 @@ pub mod Parts
 pub mod Above
 pub mod Listing
 pub mod Best
+pub mod Faults

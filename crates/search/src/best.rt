@@ -1,6 +1,7 @@
 // The greatest total, how many tie-keeping orders reach it, and any of them by its number in label order.
-ghost use Rattle.std.specs.Prelude.{◌≡◌, ◌≤◌, ◌||◌, nat_lt};
+ghost use Rattle.std.specs.Prelude.{◌≡◌, ◌||◌, Some, nat_lt};
 ghost use Rattle.yardsticks.specs.Merits.{merit_of};
+ghost use Rattle.search.specs.Faults.{fault_name};
 ghost use Rattle.search.specs.Best.{short, numbered, Admits, Searches};
 
 use crate::circle::has_order;
@@ -8,6 +9,8 @@ use crate::fill::fill;
 use crate::tables::{Sheet, Tables};
 use marks::marks::Marks;
 use marks::ties::Ties;
+use std::error::Error;
+use std::fmt;
 use yardsticks::yardstick::Yardstick;
 
 // Why there is no answer.
@@ -22,6 +25,21 @@ pub enum SearchFault {
     // no best order has the number
     Number,
 }
+
+impl fmt::Display for SearchFault {
+    ghost output = { λ f. Some (fault_name f) };
+
+    fn fmt<W: fmt::Write>(&self, f: &mut fmt::Formatter<W>) -> fmt::Result {
+        f.write_str(match self {
+            SearchFault::Units => "Units",
+            SearchFault::Short => "Short",
+            SearchFault::Circle => "Circle",
+            SearchFault::Number => "Number",
+        })
+    }
+}
+
+impl Error for SearchFault {}
 
 // Whether tables have fewer cells than there are sets of units, or a row fewer places than units; nothing is enough for
 // more than 20.

@@ -40,6 +40,7 @@ pub(crate) fn fill<Y: Yardstick>(sheet: Sheet, totals: &mut [Y::Total], counts: 
     ensures counts_past { drop (2 ^ units_of sheet.entry.marks.now) counts.new ≡ drop (2 ^ units_of sheet.entry.marks.now) counts.old }
     ensures lengths { (length totals.new ≡ length totals.old) × (length counts.new ≡ length counts.old) }
 {
+    // An index, since both lent tables are written at the place of a set, from the full set down.
     for set in (0..set_count(sheet.marks.size())).rev() {
         let tables = Tables::<Y> {
             sheet,

@@ -19,11 +19,10 @@ impl<'a, Y: Yardstick> Stage<'a, Y> {
         requires unit { label (units_of self.now.tables.sheet.marks.now) unit ≡ true }
         ensures { result ≡ ways_with (merit_of Y.Yardstick) self.now.tables.sheet.marks.now self.now.tables.sheet.ties.now self.now.placed unit }
     {
-        if !self.allows(unit) {
-            return 0;
+        match self.way(unit) {
+            Some((total, ways)) if !Y::exceeds(best, total) => ways,
+            _ => 0,
         }
-        let (total, ways) = self.way(unit);
-        if Y::exceeds(best, total) { 0 } else { ways }
     }
 
     // The unit that comes next in the best way with the number k, from 0, and the number of its rest: the ready units are

@@ -3,23 +3,41 @@
 
 use marks::marks::Marks;
 use marks::ties::Ties;
+use marks::units::Units;
 use search::best::best;
 use std::alloc::Global;
 use yardsticks::gradient::{Grades, Gradient};
 use yardsticks::spread::Spread;
+use yardsticks::yardstick::Yardstick;
 
 // The marks of a sheet, from the rows of a square table one after another; pairs that are missing are 0.
-fn sheet(units: usize, table: &[u16]) -> Option<Marks> {
-    let mut marks = Marks::new(units as u64)?;
+fn sheet(units: Units, table: &[u16]) -> Marks {
+    let mut marks = Marks::blank(units);
     for (i, mark) in table.iter().enumerate() {
         if i / 32 < i % 32 {
             let _ = marks.put(i / 32 + 1, i % 32 + 1, *mark);
         }
     }
-    Some(marks)
+    marks
 }
 
-// Fills both tables by spread and writes the first best order; answers the count, and 0 for a refusal.
+// Fills both tables and writes the first best order; answers the count, and 0 for a refusal.
+fn searched<Y: Yardstick>(
+    units: Units,
+    table: &[u16],
+    totals: &mut [Y::Total],
+    counts: &mut [u64],
+    row: &mut [u8],
+) -> u64 {
+    let marks = sheet(units, table);
+    let ties = Ties::none(units);
+    match best::<Y>(&marks, &ties, 1, totals, counts, row) {
+        Ok((_, count)) => count,
+        Err(_) => 0,
+    }
+}
+
+// The search by spread.
 #[unsafe(no_mangle)]
 pub extern "C" fn searched_by_spread(
     units: usize,
@@ -28,19 +46,13 @@ pub extern "C" fn searched_by_spread(
     counts: &mut [u64],
     row: &mut [u8],
 ) -> u64 {
-    let Some(marks) = sheet(units, table) else {
-        return 0;
-    };
-    let Some(ties) = Ties::new(units as u64) else {
-        return 0;
-    };
-    match best::<Spread>(&marks, &ties, 1, totals, counts, row) {
-        Ok((_, count)) => count,
-        Err(_) => 0,
+    match Units::new(units as u64) {
+        Some(units) => searched::<Spread>(units, table, totals, counts, row),
+        None => 0,
     }
 }
 
-// The same by gradient, over a table of totals of its own.
+// The search by gradient, over a table of totals of its own.
 #[unsafe(no_mangle)]
 pub extern "C" fn searched_by_gradient(
     heap: Global,
@@ -49,18 +61,12 @@ pub extern "C" fn searched_by_gradient(
     counts: &mut [u64],
     row: &mut [u8],
 ) -> u64 {
-    let Some(marks) = sheet(units, table) else {
-        return 0;
-    };
-    let Some(ties) = Ties::new(units as u64) else {
+    let Some(units) = Units::new(units as u64) else {
         return 0;
     };
     let none = Grades { signs: 0, rises: 0 };
     let Ok(mut totals) = Vec::from_elem(heap, none, counts.len()) else {
         return 0;
     };
-    match best::<Gradient>(&marks, &ties, 1, totals.as_mut_slice(), counts, row) {
-        Ok((_, count)) => count,
-        Err(_) => 0,
-    }
+    searched::<Gradient>(units, table, totals.as_mut_slice(), counts, row)
 }

@@ -1,8 +1,8 @@
 -- The steps of spread and target: what fits, and how many units are placed.
-use Rattle.std.proofs.Common.{◌≡◌, ℕ, zero, suc, ◌+◌, ◌-◌, ◌*◌, ◌/◌, ◌%◌, ◌^◌, ◌<◌, ◌≤◌, Bool, true, false, cond, eqb, get_or, ℤ, pos, negsuc, ◌*ℤ◌, nat_abs, sym, refl, ap, ◌∙◌, div-one, arith}
+use Rattle.std.proofs.Common.{◌≡◌, ℕ, zero, suc, ◌+◌, ◌-◌, ◌*◌, ◌/◌, ◌%◌, ◌^◌, ◌<◌, ◌≤◌, Bool, true, false, cond, eqb, get_or, ℤ, pos, ◌*ℤ◌, nat_abs, sym, refl, ap, ◌∙◌, div-one, arith}
 use native.Mathlib.Nat.{pow-succ', div-div-eq-div-mul}
 use lib.Count.{ones, ones_step}
-use Rattle.std.proofs.lemmas.Int.{ints}
+use Rattle.std.proofs.lemmas.Int.{unsigned_abs-mul}
 use Rattle.rules.specs.Units.{label, has, size, with_unit, displacement}
 use Rattle.rules.specs.Yardsticks.{places}
 use Rattle.rules.proofs.Lawfulness.{yardsticks_lawful}
@@ -10,12 +10,6 @@ use Rattle.rules.proofs.Sets.{many, many_low, size_many, size_with}
 use Rattle.marks.specs.declared.marks.Marks.{Marks}
 use Rattle.marks.specs.Numbers.{units_of, numbers_of}
 use Rattle.marks.proofs.Laws.{least, most, low, symmetric}
-
-abs_product : (x z : ℤ) → nat_abs (x *ℤ z) ≡ nat_abs x * nat_abs z
-abs_product (pos a) (pos b) = omega (arith, ints)
-abs_product (pos a) (negsuc b) = omega (arith, ints)
-abs_product (negsuc a) (pos b) = omega (arith, ints)
-abs_product (negsuc a) (negsuc b) = omega (arith, ints)
 
 -- the unit j is placed after A
 module _ (m : Marks) (A j : ℕ) (below : A < 2 ^ units_of m) (is : label (units_of m) j ≡ true) (out : has A j ≡ false) where
@@ -25,7 +19,7 @@ module _ (m : Marks) (A j : ℕ) (below : A < 2 ^ units_of m) (is : label (units
   pub square_low : nat_abs far * nat_abs far ≤ 36100000000
   square_low =
       let w = yardsticks_lawful.0.step_within (numbers_of m) (units_of m) A j (least m) (most m) (low m) (symmetric m) below is out in
-      omega (arith, abs_product far far, w.0)
+      omega (arith, unsigned_abs-mul far far, w.0)
 
   pub product_low : nat_abs (far *ℤ pos (get_or places (size (units_of m) A) 0)) ≤ 3610000
   product_low =

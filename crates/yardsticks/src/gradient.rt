@@ -80,7 +80,8 @@ fn row_of(marks: &Marks, unit: usize) -> [u16; 20]
     row
 }
 
-// A unit that is placed after a set, with its marks side by side.
+// A unit that is placed after a set. Its marks are copied into a row, which is read without a test of labels; the row is
+// an array of the most units, since the library has no heap.
 #[derive(Drop)]
 struct Placing<'a> {
     marks: &'a Marks,

@@ -7,7 +7,7 @@ ghost use Rattle.std.proofs.Common.{rules};
 use crate::yardstick::Yardstick;
 use marks::marks::Marks;
 
-// The place numbers of the positions, in order.
+// The place numbers of the positions, in order: a table, since the rules give them as one.
 const PLACES: [u8; 20] = [
     0, 1, 2, 3, 4, 5, 6, 7, 8, 9, 10, 11, 12, 13, 14, 15, 16, 17, 18, 19,
 ];

@@ -1,11 +1,13 @@
 // What can be done with the marks of a sheet.
-ghost use Rattle.std.specs.Prelude.{◌≡◌, ◌<◌, true, false, length, replicate, MatchOption, nat_le, slice_set};
+ghost use Rattle.std.specs.Prelude.{◌≡◌, ◌<◌, true, false, length, replicate, MatchOption, nat_le, slice_set, take};
+ghost use Rattle.rules.specs.Orders.{is_order};
 ghost use Rattle.rules.specs.Units.{label, displacement};
 ghost use Rattle.marks.specs.Cells.{place, is_size, added};
 ghost use Rattle.marks.specs.Numbers.{units_of, numbers_of, Blank, Put};
 
 use super::Marks;
 use crate::faults::MarkFault;
+use crate::rows::is_order;
 use crate::sets::has;
 use crate::units::Units;
 
@@ -110,6 +112,19 @@ impl Marks {
             self.cells[place(a, b)]
         } else {
             0
+        }
+    }
+
+    // The order that a row begins with: as many labels as there are units. None unless they are an order.
+    pub fn order_in<'a>(&self, row: &'a [u8]) -> Option<&'a [u8]>
+        ensures { MatchOption result (is_order (units_of self.now) (take (units_of self.now) row.now) ≡ false) (λ order.
+            (order.now ≡ take (units_of self.now) row.now) × (is_order (units_of self.now) order.now ≡ true)) }
+    {
+        let units = self.units();
+        if is_order(row, units) {
+            Some(&row[..units])
+        } else {
+            None
         }
     }
 

@@ -24,11 +24,10 @@ impl Sheet {
     fn measured(&self) -> Result<Marks, AnswerFault>
         ensures { Tested self.now (gap_tests (contents self.now)) result }
     {
-        let units = self.units.count;
-        if let Some((a, b)) = self.cells.first_gap(units) {
+        if let Some((a, b)) = self.cells.first_gap(self.units.count) {
             return Err(AnswerFault::Gap(a, b));
         }
-        Ok(self.cells.numbers(units as u64).unwrap())
+        Ok(self.cells.measured(self.units))
     }
 
     // The same, unless the row's first labels are no order.

@@ -1,6 +1,3 @@
-use Rattle.std.proofs.Common.{false, vec_items, subst, take_all}
-use Rattle.loglines.specs.Lines.{texts}
-use Rattle.loglines.specs.Readings.{Readings}
 use Rattle.loglines.proofs.States.{read_more}
 use Rattle.loglines.proofs.log.read_lines.Goals as goal
 
@@ -8,6 +5,3 @@ pub loop-line-preserved : goal.loop-line-preserved
 loop-line-preserved c =
     read_more _ _ _ _ _ _ _ _ c.loop-line-test.true c.loop-line.invariant c.read_line-reading.ensures
     c.in_ok-push.ensures.items c.open_after-opened.ensures
-
-pub returns : goal.returns
-returns c = subst (λ ls. Readings false (texts ls) (vec_items c.loop-line.readings)) (take_all _ _ c.loop-line-test.false) c.loop-line.invariant.0

@@ -30,13 +30,17 @@ returns-then-not-is_numbered g c =
 pub invariant_of-tables : goal.invariant_of-tables
 invariant_of-tables g c =
     let r = found.room g.Y.Yardstick.numbers (merit_of g.Y.Yardstick) c.args.k c.in_ok-sheet.sheet.sound
-        (record { totals = c.args.totals.now; counts = c.args.counts.now; row = c.args.row.now }) c.in_ok-sheet.ensures.2 in
+    (record { totals = c.args.totals.now; counts = c.args.counts.now; row = c.args.row.now }) c.in_ok-sheet.ensures.2 in
     record { room = record { for_totals = omega (arith, r.for_totals, c.fill.ensures.lengths); for_counts = omega (arith, r.for_counts, c.fill.ensures.lengths) } }
 
 pub slice_bounds-nth-end : goal.slice_bounds-nth-end
 slice_bounds-nth-end g c =
-    omega (arith, c.units.ensures, found.places g.Y.Yardstick.numbers (merit_of g.Y.Yardstick) c.args.k c.in_ok-sheet.sheet.sound
-    (record { totals = c.args.totals.now; counts = c.args.counts.now; row = c.args.row.now }) c.in_ok-sheet.ensures.2)
+    omega (
+      arith,
+      c.units.ensures,
+      found.places g.Y.Yardstick.numbers (merit_of g.Y.Yardstick) c.args.k c.in_ok-sheet.sheet.sound
+          (record { totals = c.args.totals.now; counts = c.args.counts.now; row = c.args.row.now }) c.in_ok-sheet.ensures.2,
+    )
 
 pub nth-requires-clause-number : goal.nth-requires-clause-number
 nth-requires-clause-number g c =

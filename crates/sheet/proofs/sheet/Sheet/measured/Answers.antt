@@ -3,6 +3,4 @@ use Rattle.sheet.proofs.Measuring.{marks_of}
 use Rattle.sheet.proofs.sheet.Sheet.measured.Goals as goal
 
 pub returns : goal.returns
-returns c =
-    let there = rw c.unwrap.ensures at c.numbers.ensures in
-    (sym c.in_default.ensures, marks_of c.args.self.now c.unwrap.result there.1)
+returns c = (sym c.in_default.ensures, marks_of c.args.self.now c.measured.result c.measured.ensures)
