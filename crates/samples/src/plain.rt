@@ -41,6 +41,7 @@ impl Plain for Spread {
     fn plain_total(marks: &Marks, row: &Row) -> u64 {
         let order = &row[..marks.units()];
         let mut sum = 0;
+        // Place numbers, since a displacement is that of a place.
         for place in 0..order.len() {
             let far = displacement(marks, order, place).unsigned_abs();
             sum += far * far;
@@ -61,6 +62,7 @@ impl Plain for Target {
     fn plain_total(marks: &Marks, row: &Row) -> i64 {
         let order = &row[..marks.units()];
         let mut sum = 0;
+        // Place numbers, since the rule multiplies by them.
         for place in 0..order.len() {
             sum += weighed(displacement(marks, order, place), place);
         }
