@@ -1,38 +1,16 @@
 // Marks: what is put and read, what is refused, and displacements.
+use marks::faults::MarkFault;
 use marks::marks::Marks;
 use marks::sets::{has, with_unit};
+use samples::sheets::{three, twenty};
 use std::test::Fail;
-
-// Three units with the marks 2, 7 and 4.
-fn three() -> Option<Marks> {
-    let mut marks = Marks::new(3)?;
-    marks.put(1, 2, 2);
-    marks.put(1, 3, 7);
-    marks.put(2, 3, 4);
-    Some(marks)
-}
-
-// Twenty units, each pair with the highest mark.
-fn twenty() -> Option<Marks> {
-    let mut marks = Marks::new(20)?;
-    for a in 1..20 {
-        for b in a + 1..21 {
-            marks.put(a, b, 10000);
-        }
-    }
-    Some(marks)
-}
 
 #[test]
 fn two_to_twenty_units(rt: HostRuntime) -> Result<(), Fail> {
     assert!(rt; Marks::new(1).is_none());
     assert!(rt; Marks::new(21).is_none());
-    let Some(fewest) = Marks::new(2) else {
-        return Err(Fail::new("not taken"));
-    };
-    let Some(most) = Marks::new(20) else {
-        return Err(Fail::new("not taken"));
-    };
+    let fewest = Marks::new(2).ok_or("not taken")?;
+    let most = Marks::new(20).ok_or("not taken")?;
     assert_eq!(rt; fewest.units(), 2);
     assert_eq!(rt; most.units(), 20);
     Ok(())
@@ -40,9 +18,7 @@ fn two_to_twenty_units(rt: HostRuntime) -> Result<(), Fail> {
 
 #[test]
 fn marks_in_both_directions(rt: HostRuntime) -> Result<(), Fail> {
-    let Some(marks) = three() else {
-        return Err(Fail::new("not taken"));
-    };
+    let marks = three(2, 7, 4)?;
     assert_eq!(rt; marks.mark(1, 3), 7);
     assert_eq!(rt; marks.mark(3, 1), 7);
     assert_eq!(rt; marks.mark(3, 2), 4);
@@ -54,24 +30,20 @@ fn marks_in_both_directions(rt: HostRuntime) -> Result<(), Fail> {
 
 #[test]
 fn refused_marks(rt: HostRuntime) -> Result<(), Fail> {
-    let Some(mut marks) = three() else {
-        return Err(Fail::new("not taken"));
-    };
-    assert!(rt; !marks.put(1, 1, 5));
-    assert!(rt; !marks.put(0, 1, 5));
-    assert!(rt; !marks.put(1, 4, 5));
-    assert!(rt; !marks.put(1, 2, 10001));
+    let mut marks = three(2, 7, 4)?;
+    assert_eq!(rt; marks.put(1, 1, 5), Err(MarkFault::NoPair));
+    assert_eq!(rt; marks.put(0, 1, 5), Err(MarkFault::NoPair));
+    assert_eq!(rt; marks.put(1, 4, 5), Err(MarkFault::NoPair));
+    assert_eq!(rt; marks.put(1, 2, 10001), Err(MarkFault::High));
     assert_eq!(rt; marks.mark(1, 2), 2);
-    assert!(rt; marks.put(2, 1, 10000));
+    assert_eq!(rt; marks.put(2, 1, 10000), Ok(()));
     assert_eq!(rt; marks.mark(1, 2), 10000);
     Ok(())
 }
 
 #[test]
 fn displacements_of_three(rt: HostRuntime) -> Result<(), Fail> {
-    let Some(marks) = three() else {
-        return Err(Fail::new("not taken"));
-    };
+    let marks = three(2, 7, 4)?;
     assert_eq!(rt; marks.displacement(0b000, 1), -9);
     assert_eq!(rt; marks.displacement(0b001, 2), -2);
     assert_eq!(rt; marks.displacement(0b011, 3), 11);
@@ -82,9 +54,7 @@ fn displacements_of_three(rt: HostRuntime) -> Result<(), Fail> {
 
 #[test]
 fn displacements_of_twenty(rt: HostRuntime) -> Result<(), Fail> {
-    let Some(marks) = twenty() else {
-        return Err(Fail::new("not taken"));
-    };
+    let marks = twenty()?;
     assert_eq!(rt; marks.displacement(0, 1), -190000);
     assert_eq!(rt; marks.displacement((1 << 19) - 1, 20), 190000);
     Ok(())

@@ -1,21 +1,21 @@
 // Improving beside its plain version.
-use crate::asked::ask;
 use crate::orders::draw_row;
-use crate::plain::{Move, plain_improve};
-use moves::improve::MoveFault;
+use crate::plain::{PlainMove, plain_improve};
+use moves::improve::{MoveFault, improve};
+use moves::insertion::Insertion;
+use moves::interchange::Interchange;
 use samples::numbers::Numbers;
-use samples::rows::{keeps_ties, same_rows};
+use samples::plain::Plain;
+use samples::rows::{Row, keeps_ties};
 use samples::sheets::Sheet;
-use samples::totals::{Kind, equal};
-
-const KINDS: [Move; 2] = [Move::Interchange, Move::Insertion];
-
-const YARDSTICKS: [Kind; 3] = [Kind::Spread, Kind::Gradient, Kind::Target];
+use yardsticks::gradient::Gradient;
+use yardsticks::spread::Spread;
+use yardsticks::target::Target;
 
 const LIMITS: [u32; 4] = [0, 1, 2, 100];
 
 // What was compared so far.
-#[derive(Drop)]
+#[derive(Default, Drop)]
 pub struct Tally {
     pub calls: u64,
     pub made: u64,
@@ -25,16 +25,6 @@ pub struct Tally {
 }
 
 impl Tally {
-    pub fn new() -> Tally {
-        Tally {
-            calls: 0,
-            made: 0,
-            settled: 0,
-            against: 0,
-            disagreements: 0,
-        }
-    }
-
     // Counts a disagreement unless both agree.
     fn note(&mut self, agree: bool) {
         self.calls = self.calls.saturating_add(1);
@@ -45,65 +35,60 @@ impl Tally {
 }
 
 // Compares one call on an order that keeps the ties.
-fn compare_improving(
-    kind: Move,
-    by: Kind,
+fn compare_improving<M: PlainMove, Y: Plain>(
     sheet: &Sheet,
     limit: u32,
-    from: [u8; 8],
+    from: &Row,
     tally: &mut Tally,
 ) {
-    let plain = plain_improve(kind, by, sheet, limit, from);
-    let mut row = from;
-    let Ok(answer) = ask(kind, by, sheet, limit, &mut row) else {
-        return tally.note(false);
-    };
-    tally.made = tally.made.saturating_add(u64::from(answer.made));
-    if answer.settled {
-        tally.settled = tally.settled.saturating_add(1);
+    let mut row = *from;
+    let mut plain_row = *from;
+    let answer = improve::<M, Y>(&sheet.marks, &sheet.ties, limit, &mut row);
+    let plain = plain_improve::<M, Y>(sheet, limit, &mut plain_row);
+    tally.note(answer == Ok(plain) && row == plain_row);
+    if let Ok(found) = answer {
+        tally.made = tally.made.saturating_add(u64::from(found.made));
+        tally.settled = tally.settled.saturating_add(u64::from(found.settled));
     }
-    tally.note(
-        answer.made == plain.made
-            && equal(answer.total, plain.total)
-            && answer.settled == plain.settled
-            && same_rows(&row, &plain.row),
-    );
 }
 
 // Sees that an order against the ties is refused, and the row left as it was.
-fn compare_against(
-    kind: Move,
-    by: Kind,
+fn compare_against<M: PlainMove, Y: Plain>(
     sheet: &Sheet,
     limit: u32,
-    from: [u8; 8],
+    from: &Row,
     tally: &mut Tally,
 ) {
-    let mut row = from;
-    let answer = ask(kind, by, sheet, limit, &mut row);
+    let mut row = *from;
+    let answer = improve::<M, Y>(&sheet.marks, &sheet.ties, limit, &mut row);
     tally.against = tally.against.saturating_add(1);
-    tally.note(matches!(answer, Err(MoveFault::Against)) && same_rows(&row, &from));
+    tally.note(answer == Err(MoveFault::Against) && row == *from);
 }
 
-// Compares all calls on one order of a sheet.
-fn compare_order(sheet: &Sheet, from: [u8; 8], tally: &mut Tally) {
-    let keeps = keeps_ties(&sheet.ties, &from);
-    for kind in KINDS {
-        for by in YARDSTICKS {
-            for limit in LIMITS {
-                if keeps {
-                    compare_improving(kind, by, sheet, limit, from, tally);
-                } else {
-                    compare_against(kind, by, sheet, limit, from, tally);
-                }
-            }
+// Compares the calls by a kind of move and a yardstick on one order of a sheet.
+fn compare_by<M: PlainMove, Y: Plain>(sheet: &Sheet, from: &Row, tally: &mut Tally) {
+    let keeps = keeps_ties(&sheet.ties, &from[..sheet.marks.units()]);
+    for limit in LIMITS {
+        if keeps {
+            compare_improving::<M, Y>(sheet, limit, from, tally);
+        } else {
+            compare_against::<M, Y>(sheet, limit, from, tally);
         }
     }
+}
+
+// Compares the calls by a kind of move on one order of a sheet.
+fn compare_kind<M: PlainMove>(sheet: &Sheet, from: &Row, tally: &mut Tally) {
+    compare_by::<M, Spread>(sheet, from, tally);
+    compare_by::<M, Gradient>(sheet, from, tally);
+    compare_by::<M, Target>(sheet, from, tally);
 }
 
 // Compares all calls on some orders of a sheet.
 pub fn compare_sheet(numbers: &mut Numbers, sheet: &Sheet, tally: &mut Tally) {
     for _ in 0..3 {
-        compare_order(sheet, draw_row(numbers, sheet), tally);
+        let from = draw_row(numbers, sheet);
+        compare_kind::<Interchange>(sheet, &from, tally);
+        compare_kind::<Insertion>(sheet, &from, tally);
     }
 }

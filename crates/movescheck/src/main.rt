@@ -2,12 +2,12 @@
 // three yardsticks.
 #![tactic(auto)]
 
-use anyhow::anyhow;
+use anyhow::Context;
 use compare::{Tally, compare_sheet};
+use marks::units::Units;
 use samples::numbers::Numbers;
-use samples::sheets::draw;
+use samples::sheets::Sheet;
 
-mod asked;
 mod compare;
 mod orders;
 mod plain;
@@ -17,27 +17,29 @@ const SHEETS: u64 = 60;
 
 // Compares all sheets of some units, and prints how many they were. Answers how many disagreements there were.
 fn compare_units(rt: &HostRuntime, numbers: &mut Numbers, units: u64) -> anyhow::Result<u64> {
-    let mut tally = Tally::new();
+    let size = Units::new(units).context("no such sheet")?;
+    let mut tally = Tally::default();
     for _ in 0..SHEETS {
-        let Some(sheet) = draw(numbers, units) else {
-            return Err(anyhow!("no such sheet"));
-        };
+        let sheet = Sheet::draw(numbers, size);
         compare_sheet(numbers, &sheet, &mut tally);
     }
-    let calls = tally.calls;
-    let made = tally.made;
-    let settled = tally.settled;
-    let against = tally.against;
+    let Tally {
+        calls,
+        made,
+        settled,
+        against,
+        disagreements,
+    } = tally;
     println!(rt;
         "{units} units: {calls} calls compared, {made} moves made, {settled} settled, {against} against the ties",
     )?;
-    Ok(tally.disagreements)
+    Ok(disagreements)
 }
 
 fn run(rt: &HostRuntime) -> anyhow::Result<()> {
     let mut numbers = Numbers::new(7);
     let mut disagreements = 0u64;
-    for units in 2..9 {
+    for units in 2..=8 {
         let more = compare_units(rt, &mut numbers, units)?;
         disagreements = disagreements.saturating_add(more);
     }

@@ -1,29 +1,26 @@
-// Pseudo-random orders of a sheet of at most eight units.
+// Pseudo-random orders of a sheet.
 use samples::numbers::Numbers;
-use samples::rows::{exchange, first_order, keeps_ties};
+use samples::rows::{Row, first_row, keeps_ties};
 use samples::sheets::Sheet;
 
 // So many orders are drawn to find one that keeps the ties.
 const TRIES: u32 = 200;
 
-fn draw_order(numbers: &mut Numbers, units: usize) -> [u8; 8] {
-    let mut row = first_order(units);
-    for i in 1..units {
-        let other = numbers.below(i as u64 + 1) as usize;
-        exchange(&mut row, i, other);
-    }
+fn draw_order(numbers: &mut Numbers, sheet: &Sheet) -> Row {
+    let units = sheet.marks.size();
+    let mut row = first_row(units);
+    numbers.shuffle(&mut row[..units.count()]);
     row
 }
 
 // An order that keeps the ties, or, where none is found, the last one drawn.
-pub fn draw_row(numbers: &mut Numbers, sheet: &Sheet) -> [u8; 8] {
-    let units = sheet.marks.units();
-    let mut row = draw_order(numbers, units);
+pub fn draw_row(numbers: &mut Numbers, sheet: &Sheet) -> Row {
+    let mut row = draw_order(numbers, sheet);
     for _ in 0..TRIES {
-        if keeps_ties(&sheet.ties, &row) {
+        if keeps_ties(&sheet.ties, &row[..sheet.marks.units()]) {
             break;
         }
-        row = draw_order(numbers, units);
+        row = draw_order(numbers, sheet);
     }
     row
 }

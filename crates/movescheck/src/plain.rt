@@ -1,86 +1,88 @@
 // Improving by the rules' own words: all moves from the first on, each on a copy of the row.
-use samples::rows::{exchange, keeps_ties};
+ghost use Rattle.std.specs.Prelude.{◌<◌};
+
+use moves::improve::Improvement;
+use moves::insertion::Insertion;
+use moves::interchange::Interchange;
+use moves::kind::MoveKind;
+use samples::plain::Plain;
+use samples::rows::{Row, keeps_ties};
 use samples::sheets::Sheet;
-use samples::totals::{Kind, Total, above, plain_total};
 
-#[derive(Clone, Copy)]
-pub enum Move {
-    Interchange,
-    Insertion,
+// A kind of move with a plain way to make its moves.
+pub trait PlainMove: MoveKind {
+    // What a move about two places makes of a row; none if the kind has no such move.
+    fn moved(row: Row, u: usize, v: usize) -> Option<Row>
+        requires { (u < 20) × (v < 20) };
 }
 
-#[derive(Clone, Copy)]
-pub struct Plain {
-    pub made: u32,
-    pub total: Total,
-    pub settled: bool,
-    pub row: [u8; 8],
-}
-
-// The row with the unit of one place at another: it changes places with its neighbours one by one.
-fn inserted(row: &[u8; 8], from: usize, to: usize) -> [u8; 8] {
-    let mut moved = *row;
-    for i in from..to {
-        exchange(&mut moved, i, i + 1);
-    }
-    for i in (to..from).rev() {
-        exchange(&mut moved, i, i + 1);
-    }
-    moved
-}
-
-// What a move about two places makes of a row; none if the kind has no such move.
-fn moved(kind: Move, row: &[u8; 8], u: usize, v: usize) -> Option<[u8; 8]> {
-    match kind {
-        Move::Interchange => {
-            if u >= v {
-                return None;
-            }
-            let mut moved = *row;
-            exchange(&mut moved, u, v);
-            Some(moved)
+impl PlainMove for Interchange {
+    fn moved(mut row: Row, u: usize, v: usize) -> Option<Row> {
+        if u >= v {
+            return None;
         }
-        Move::Insertion => if u == v {
-            None
-        } else {
-            Some(inserted(row, u, v))
-        },
+        row.swap(u, v);
+        Some(row)
     }
+}
+
+impl PlainMove for Insertion {
+    // The unit at u changes places with its neighbours one by one.
+    fn moved(mut row: Row, u: usize, v: usize) -> Option<Row> {
+        if u == v {
+            return None;
+        }
+        for place in u..v {
+            row.swap(place, place + 1);
+        }
+        for place in (v..u).rev() {
+            row.swap(place, place + 1);
+        }
+        Some(row)
+    }
+}
+
+// Whether a row keeps the ties and has a greater total than another.
+fn is_better<Y: Plain>(sheet: &Sheet, row: &Row, other: &Row) -> bool {
+    keeps_ties(&sheet.ties, &row[..sheet.marks.units()])
+        && Y::plain_total(&sheet.marks, row) > Y::plain_total(&sheet.marks, other)
+}
+
+// The row that the first better move from a place gives; none if there is none.
+fn next_from<M: PlainMove, Y: Plain>(sheet: &Sheet, row: &Row, u: usize) -> Option<Row>
+    requires { u < 20 }
+{
+    (0..sheet.marks.units())
+        .filter_map(|v| M::moved(*row, u, v))
+        .find(|moved| is_better::<Y>(sheet, moved, row))
 }
 
 // The row that the first better move gives, by the first place and then by the second; none if there is none.
-fn next(kind: Move, by: Kind, sheet: &Sheet, row: &[u8; 8]) -> Option<[u8; 8]> {
-    let total = plain_total(by, &sheet.marks, row);
-    for u in 0..sheet.marks.units() {
-        for v in 0..sheet.marks.units() {
-            let Some(other) = moved(kind, row, u, v) else {
-                continue;
-            };
-            if keeps_ties(&sheet.ties, &other)
-                && above(plain_total(by, &sheet.marks, &other), total)
-            {
-                return Some(other);
+fn next<M: PlainMove, Y: Plain>(sheet: &Sheet, row: &Row) -> Option<Row> {
+    (0..sheet.marks.units()).find_map(|u| next_from::<M, Y>(sheet, row, u))
+}
+
+// Improves the order in a row, which keeps the ties.
+pub fn plain_improve<M: PlainMove, Y: Plain>(
+    sheet: &Sheet,
+    limit: u32,
+    row: &mut Row,
+) -> Improvement<Y::Total> {
+    for made in 0..limit {
+        match next::<M, Y>(sheet, row) {
+            Some(better) => *row = better,
+            None => {
+                return Improvement {
+                    made,
+                    total: Y::plain_total(&sheet.marks, row),
+                    settled: true,
+                };
             }
         }
     }
-    None
-}
-
-// From an order that keeps the ties.
-pub fn plain_improve(kind: Move, by: Kind, sheet: &Sheet, limit: u32, from: [u8; 8]) -> Plain {
-    let mut row = from;
-    let mut made = 0u32;
-    for _ in 0..limit {
-        let Some(other) = next(kind, by, sheet, &row) else {
-            break;
-        };
-        row = other;
-        made = made.saturating_add(1);
-    }
-    Plain {
-        made,
-        total: plain_total(by, &sheet.marks, &row),
-        settled: next(kind, by, sheet, &row).is_none(),
-        row,
+    Improvement {
+        made: limit,
+        total: Y::plain_total(&sheet.marks, row),
+        settled: next::<M, Y>(sheet, row).is_none(),
     }
 }

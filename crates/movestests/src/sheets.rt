@@ -3,6 +3,7 @@ use marks::marks::Marks;
 use marks::ties::Ties;
 use moves::improve::{Improvement, MoveFault, improve};
 use moves::kind::MoveKind;
+use samples::sheets;
 use yardsticks::spread::Spread;
 
 #[derive(Clone, Copy)]
@@ -11,14 +12,12 @@ pub struct Sheet {
     pub ties: Ties,
 }
 
-// The marks 2 of 1 and 2, 7 of 1 and 3, 4 of 2 and 3, and ties for some units.
+// The three units, and no tie among some units.
 pub fn three(tied_units: u64) -> Option<Sheet> {
-    let mut marks = Marks::new(3)?;
-    let ties = Ties::new(tied_units)?;
-    marks.put(1, 2, 2).ok()?;
-    marks.put(1, 3, 7).ok()?;
-    marks.put(2, 3, 4).ok()?;
-    Some(Sheet { marks, ties })
+    Some(Sheet {
+        marks: sheets::three(2, 7, 4).ok()?,
+        ties: Ties::new(tied_units)?,
+    })
 }
 
 impl Sheet {

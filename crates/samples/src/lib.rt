@@ -1,7 +1,7 @@
-// What the comparisons share: pseudo-random sheets, rows of eight places, and totals straight from the marks.
+// What the comparisons and the tests share: pseudo-random sheets, fixed sheets, rows, and totals straight from the marks.
 #![tactic(auto)]
 
 pub mod numbers;
+pub mod plain;
 pub mod rows;
 pub mod sheets;
-pub mod totals;

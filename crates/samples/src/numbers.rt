@@ -1,4 +1,8 @@
 // Pseudo-random numbers: a linear congruential generator, the same numbers in each run.
+ghost use Rattle.std.specs.Prelude.{◌-◌, ◌≤◌};
+
+use marks::units::Units;
+
 #[derive(Drop)]
 pub struct Numbers {
     state: u64,
@@ -10,7 +14,9 @@ impl Numbers {
     }
 
     // The next number, below n; 0 if n is 0.
-    pub fn below(&mut self, n: u64) -> u64 {
+    pub fn below(&mut self, n: u64) -> u64
+        ensures { result ≤ n - 1 }
+    {
         self.state = self
             .state
             .wrapping_mul(6364136223846793005)
@@ -19,7 +25,15 @@ impl Numbers {
     }
 
     // The label of one of some units.
-    pub fn label(&mut self, units: u64) -> usize {
-        self.below(units).saturating_add(1) as usize
+    pub fn label(&mut self, units: Units) -> usize {
+        self.below(units.count() as u64) as usize + 1
+    }
+
+    // Puts some units into a pseudo-random order. An index, since two places are exchanged.
+    pub fn shuffle(&mut self, units: &mut [u8]) {
+        for i in 1..units.len() {
+            let other = self.below(i as u64 + 1) as usize;
+            units.swap(i, other);
+        }
     }
 }

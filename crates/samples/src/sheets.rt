@@ -1,7 +1,9 @@
-// Pseudo-random sheets without gaps.
+// Sheets without gaps: pseudo-random ones, and fixed ones for tests.
 use crate::numbers::Numbers;
+use marks::faults::MarkFault;
 use marks::marks::Marks;
 use marks::ties::Ties;
+use marks::units::Units;
 
 #[derive(Clone, Copy)]
 pub struct Sheet {
@@ -9,33 +11,59 @@ pub struct Sheet {
     pub ties: Ties,
 }
 
+// The labels of twenty units in order.
+pub const ROW: [u8; 20] = [
+    1, 2, 3, 4, 5, 6, 7, 8, 9, 10, 11, 12, 13, 14, 15, 16, 17, 18, 19, 20,
+];
+
 // Marks from 0 to a greatest one, which is at most 3, so that many totals are equal.
-fn draw_marks(numbers: &mut Numbers, units: u64) -> Option<Marks> {
-    let mut marks = Marks::new(units)?;
+fn draw_marks(numbers: &mut Numbers, units: Units) -> Marks {
+    let mut marks = Marks::blank(units);
     let greatest = numbers.below(4);
-    for a in 1..marks.units() {
-        for b in a + 1..marks.units() + 1 {
-            let mark = numbers.below(greatest.saturating_add(1));
-            let _ = marks.put(a, b, u16::try_from(mark).unwrap_or(0));
+    for a in 1..=units.count() {
+        for b in a + 1..=units.count() {
+            let _ = marks.put(a, b, numbers.below(greatest + 1) as u16);
         }
     }
-    Some(marks)
+    marks
 }
 
-// At most as many ties as there are units, some of them in circles.
-fn draw_ties(numbers: &mut Numbers, units: u64) -> Option<Ties> {
-    let mut ties = Ties::new(units)?;
-    for _ in 0..numbers.below(units.saturating_add(1)) {
+// At most as many ties as there are units, some of them in circles. No unit is tied before itself.
+fn draw_ties(numbers: &mut Numbers, units: Units) -> Ties {
+    let mut ties = Ties::none(units);
+    for _ in 0..numbers.below(units.count() as u64 + 1) {
         let a = numbers.label(units);
         let b = numbers.label(units);
         let _ = ties.set(a, b, true);
     }
-    Some(ties)
+    ties
 }
 
-// A sheet of some units; none unless there are 2 to 20.
-pub fn draw(numbers: &mut Numbers, units: u64) -> Option<Sheet> {
-    let marks = draw_marks(numbers, units)?;
-    let ties = draw_ties(numbers, units)?;
-    Some(Sheet { marks, ties })
+impl Sheet {
+    // A pseudo-random sheet of some units.
+    pub fn draw(numbers: &mut Numbers, units: Units) -> Sheet {
+        let marks = draw_marks(numbers, units);
+        let ties = draw_ties(numbers, units);
+        Sheet { marks, ties }
+    }
+}
+
+// Three units: the mark of 1 and 2, of 1 and 3, and of 2 and 3.
+pub fn three(first: u16, second: u16, third: u16) -> Result<Marks, MarkFault> {
+    let mut marks = Marks::new(3).unwrap();
+    marks.put(1, 2, first)?;
+    marks.put(1, 3, second)?;
+    marks.put(2, 3, third)?;
+    Ok(marks)
+}
+
+// Twenty units whose marks are all 10,000.
+pub fn twenty() -> Result<Marks, MarkFault> {
+    let mut marks = Marks::blank(Units::MOST);
+    for a in 1..=20 {
+        for b in a + 1..=20 {
+            marks.put(a, b, 10000)?;
+        }
+    }
+    Ok(marks)
 }

@@ -5,5 +5,3 @@
 mod comparisons;
 #[cfg(test)]
 mod coordinates;
-#[cfg(test)]
-mod sheets;

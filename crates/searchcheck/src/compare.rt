@@ -1,17 +1,20 @@
 // The search over sets beside the search of all orders.
-use crate::asked::ask;
-use crate::plain::{Plain, search_all};
-use samples::rows::{REST, same_rows};
+use crate::asked::Asked;
+use crate::plain::{Best, search_all};
+use samples::plain::Plain;
+use samples::rows::{REST, Row};
 use samples::sheets::Sheet;
-use samples::totals::{Kind, equal};
 use search::best::SearchFault;
 use std::alloc::{AllocError, Global};
+use yardsticks::gradient::Gradient;
+use yardsticks::spread::Spread;
+use yardsticks::target::Target;
 
 // At most so many orders of a sheet are asked for by one yardstick; of more, some at equal distances.
-const MOST_ASKED: u64 = 800;
+const MOST_ASKED: usize = 800;
 
 // What was compared so far.
-#[derive(Drop)]
+#[derive(Default, Drop)]
 pub struct Tally {
     pub sheets: u64,
     pub circles: u64,
@@ -20,15 +23,6 @@ pub struct Tally {
 }
 
 impl Tally {
-    pub fn new() -> Tally {
-        Tally {
-            sheets: 0,
-            circles: 0,
-            orders: 0,
-            disagreements: 0,
-        }
-    }
-
     // Counts a disagreement unless the two searches agree.
     fn note(&mut self, agree: bool) {
         if !agree {
@@ -37,73 +31,55 @@ impl Tally {
     }
 }
 
-// Whether a number is refused as no best order's, and the row left as it was.
-fn refuses_number(kind: Kind, sheet: &Sheet, k: u64) -> bool {
-    let mut row = [REST; 8];
-    let answer = ask(kind, sheet, k, &mut row);
-    matches!(answer, Err(SearchFault::Number)) && same_rows(&row, &[REST; 8])
-}
-
-// Whether a sheet is refused for its circle, and the row left as it was.
-fn refuses_circle(kind: Kind, sheet: &Sheet) -> bool {
-    let mut row = [REST; 8];
-    let answer = ask(kind, sheet, 1, &mut row);
-    matches!(answer, Err(SearchFault::Circle)) && same_rows(&row, &[REST; 8])
+// Whether the k-th order is refused with a fault, and the row left as it was.
+fn refuses<Y: Plain>(asked: &mut Asked<'_, Y>, k: u64, fault: SearchFault) -> bool {
+    let mut row = [REST; 20];
+    asked.best(k, &mut row) == Err(fault) && row == [REST; 20]
 }
 
 // Whether total, count and k-th order are those of the plain search.
-fn agrees(kind: Kind, sheet: &Sheet, plain: &Plain, k: u64) -> bool {
-    let mut row = [REST; 8];
-    let Ok(answer) = ask(kind, sheet, k, &mut row) else {
-        return false;
-    };
-    let Some(order) = plain.orders.get(k.saturating_sub(1) as usize) else {
-        return false;
-    };
-    equal(answer.total, plain.total)
-        && answer.count == plain.orders.len() as u64
-        && same_rows(&row, order)
+fn agrees<Y: Plain>(asked: &mut Asked<'_, Y>, plain: &Best<Y::Total>, k: u64, order: &Row) -> bool {
+    let mut row = [REST; 20];
+    let count = plain.orders.len() as u64;
+    asked.best(k, &mut row) == Ok((plain.total, count)) && row == *order
 }
 
 // Compares the best orders of a sheet that has some: all, or some at equal distances and the last.
-fn compare_orders(kind: Kind, sheet: &Sheet, plain: &Plain, tally: &mut Tally) {
-    let count = plain.orders.len() as u64;
-    let apart = (count.saturating_sub(1) / MOST_ASKED).saturating_add(1);
-    for i in 0..MOST_ASKED {
-        let k = i.saturating_mul(apart).saturating_add(1);
-        if k > count {
-            break;
-        }
-        tally.note(agrees(kind, sheet, plain, k));
+fn compare_orders<Y: Plain>(asked: &mut Asked<'_, Y>, plain: &Best<Y::Total>, tally: &mut Tally) {
+    let count = plain.orders.len();
+    let apart = count.saturating_sub(1) / MOST_ASKED + 1;
+    for (order, k) in plain.orders.iter().zip(1..).step_by(apart) {
+        tally.note(agrees(asked, plain, k, order));
         tally.orders = tally.orders.saturating_add(1);
     }
-    tally.note(agrees(kind, sheet, plain, count));
-    tally.note(refuses_number(kind, sheet, 0));
-    tally.note(refuses_number(kind, sheet, count.saturating_add(1)));
+    let count = count as u64;
+    if let Some(order) = plain.orders.last() {
+        tally.note(agrees(asked, plain, count, order));
+    }
+    tally.note(refuses(asked, 0, SearchFault::Number));
+    tally.note(refuses(asked, count.saturating_add(1), SearchFault::Number));
 }
 
 // Compares both searches by one yardstick. Answers whether the sheet has a circle.
-fn compare_kind(
+fn compare_by<Y: Plain>(
     heap: Global,
-    kind: Kind,
     sheet: &Sheet,
     tally: &mut Tally,
 ) -> Result<bool, AllocError> {
-    let plain = search_all(heap, kind, sheet)?;
-    let circle = plain.orders.is_empty();
-    if circle {
-        tally.note(refuses_circle(kind, sheet));
-    } else {
-        compare_orders(kind, sheet, &plain, tally);
+    let mut asked = Asked::<Y>::new(heap, sheet)?;
+    let plain = search_all::<Y>(heap, sheet)?;
+    match &plain {
+        Some(plain) => compare_orders(&mut asked, plain, tally),
+        None => tally.note(refuses(&mut asked, 1, SearchFault::Circle)),
     }
-    Ok(circle)
+    Ok(plain.is_none())
 }
 
 // Compares both searches of a sheet by all three yardsticks.
 pub fn compare_sheet(heap: Global, sheet: &Sheet, tally: &mut Tally) -> Result<(), AllocError> {
-    let circle = compare_kind(heap, Kind::Spread, sheet, tally)?;
-    compare_kind(heap, Kind::Gradient, sheet, tally)?;
-    compare_kind(heap, Kind::Target, sheet, tally)?;
+    let circle = compare_by::<Spread>(heap, sheet, tally)?;
+    compare_by::<Gradient>(heap, sheet, tally)?;
+    compare_by::<Target>(heap, sheet, tally)?;
     tally.sheets = tally.sheets.saturating_add(1);
     if circle {
         tally.circles = tally.circles.saturating_add(1);

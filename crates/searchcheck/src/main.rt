@@ -2,10 +2,11 @@
 // for the orders of twenty units.
 #![tactic(auto)]
 
-use anyhow::anyhow;
+use anyhow::Context;
 use compare::{Tally, compare_sheet};
+use marks::units::Units;
 use samples::numbers::Numbers;
-use samples::sheets::draw;
+use samples::sheets::Sheet;
 use twenty::show_twenty;
 
 mod asked;
@@ -15,38 +16,37 @@ mod twenty;
 
 // How many sheets are drawn for a number of units.
 fn sheet_count(units: u64) -> u64 {
-    if units <= 6 {
-        100
-    } else if units == 7 {
-        60
-    } else {
-        24
+    match units {
+        ..=6 => 100,
+        7 => 60,
+        _ => 24,
     }
 }
 
 // Compares all sheets of some units, and prints how many they were. Answers how many disagreements there were.
 fn compare_units(rt: &HostRuntime, numbers: &mut Numbers, units: u64) -> anyhow::Result<u64> {
-    let mut tally = Tally::new();
+    let size = Units::new(units).context("no such sheet")?;
+    let mut tally = Tally::default();
     for _ in 0..sheet_count(units) {
-        let Some(sheet) = draw(numbers, units) else {
-            return Err(anyhow!("no such sheet"));
-        };
-        compare_sheet(rt.alloc(), &sheet, &mut tally)?;
+        compare_sheet(rt.alloc(), &Sheet::draw(numbers, size), &mut tally)?;
     }
-    let sheets = tally.sheets;
-    let circles = tally.circles;
-    let orders = tally.orders;
+    let Tally {
+        sheets,
+        circles,
+        orders,
+        disagreements,
+    } = tally;
     println!(rt;
         "{units} units: {sheets} sheets, {circles} with a circle, {orders} listed orders compared",
     )?;
-    Ok(tally.disagreements)
+    Ok(disagreements)
 }
 
 // Compares the sheets of all sizes, then shows the twenty units.
 fn run(rt: &HostRuntime) -> anyhow::Result<()> {
     let mut numbers = Numbers::new(20);
     let mut disagreements = 0u64;
-    for units in 2..9 {
+    for units in 2..=8 {
         let more = compare_units(rt, &mut numbers, units)?;
         disagreements = disagreements.saturating_add(more);
     }

@@ -19,38 +19,35 @@ const MARKS: [[u16; 12]; 12] = [
 ];
 
 // The pair that nobody has compared yet.
-pub const LATE: (u64, u64) = (3, 7);
+const LATE: (u64, u64) = (3, 7);
+
+// What stands earlier than what, where a cut was seen.
+const TIES: [(u64, u64); 4] = [(5, 9), (2, 7), (7, 4), (12, 10)];
 
 // Writes the marks of a unit and all later ones, but the pair that is not compared yet.
-fn write_row(sheet: &mut Sheet, a: usize, row: &[u16; 12]) -> Result<(), SheetFault> {
-    for b in a..12 {
-        let pair = (a as u64, b as u64 + 1);
-        if pair.0 != LATE.0 || pair.1 != LATE.1 {
-            sheet.write(pair.0, pair.1, u64::from(row[b]))?;
+fn write_row(sheet: &mut Sheet, a: u64, row: &[u16; 12]) -> Result<(), SheetFault> {
+    for (b, mark) in (1..).zip(row).skip(a as usize) {
+        if (a, b) != LATE {
+            sheet.write(a, b, u64::from(*mark))?;
         }
     }
     Ok(())
 }
 
-// Writes the ties: each unit stands earlier than the next one of the row, where a cut was seen.
-fn write_ties(sheet: &mut Sheet) -> Result<(), SheetFault> {
-    sheet.tie(5, 9)?;
-    sheet.tie(2, 7)?;
-    sheet.tie(7, 4)?;
-    sheet.tie(12, 10)
-}
-
 // Makes a sheet of the twelve units, with all marks but one.
 pub fn fill(sheet: &mut Sheet) -> Result<(), SheetFault> {
     sheet.open(12)?;
-    for (i, row) in MARKS.iter().enumerate() {
-        write_row(sheet, i + 1, row)?;
+    for (a, row) in (1..).zip(&MARKS) {
+        write_row(sheet, a, row)?;
     }
-    write_ties(sheet)
+    for (earlier, later) in TIES {
+        sheet.tie(earlier, later)?;
+    }
+    Ok(())
 }
 
 // Writes the mark that was missing.
 pub fn complete(sheet: &mut Sheet) -> Result<(), SheetFault> {
     let (a, b) = LATE;
-    sheet.write(a, b, u64::from(MARKS[2][6]))
+    sheet.write(a, b, u64::from(MARKS[a as usize - 1][b as usize - 1]))
 }

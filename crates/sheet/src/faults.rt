@@ -1,21 +1,23 @@
 // Why a call is refused.
-ghost use Rattle.std.specs.Prelude.{◌≡◌};
+ghost use Rattle.std.specs.Prelude.{◌≡◌, Some};
 ghost use Rattle.rules.specs.Calls.{number_of};
-ghost use Rattle.sheet.specs.Faults.{sheet_refusal, answer_refusal};
+ghost use Rattle.sheet.specs.Faults.{sheet_refusal, answer_refusal, sheet_words, answer_words};
 ghost use Rattle.sheet.specs.Raised.{searching, improving};
 
 use moves::improve::MoveFault;
 use search::best::SearchFault;
+use std::error::Error;
+use std::fmt;
 
 // Which of the two labels handed to a call.
-#[derive(Clone, Copy)]
+#[derive(Clone, Copy, PartialEq, Eq, Debug)]
 pub enum Label {
     First,
     Second,
 }
 
 // Why a sheet is not opened or changed.
-#[derive(Clone, Copy)]
+#[derive(Clone, Copy, PartialEq, Eq, Debug)]
 pub enum SheetFault {
     // a sheet has 2 to 20 units
     Size,
@@ -41,8 +43,19 @@ impl SheetFault {
     }
 }
 
+// What a refused change prints: the number.
+impl fmt::Display for SheetFault {
+    ghost output = { λ f. Some (sheet_words f) };
+
+    fn fmt<W: fmt::Write>(&self, f: &mut fmt::Formatter<W>) -> fmt::Result {
+        write!(f, "refused {}", self.number())
+    }
+}
+
+impl Error for SheetFault {}
+
 // Why there is no answer from the marks.
-#[derive(Clone, Copy)]
+#[derive(Clone, Copy, PartialEq, Eq, Debug)]
 pub enum AnswerFault {
     // a table, row or list is too short
     Short,
@@ -73,6 +86,21 @@ impl AnswerFault {
         }
     }
 }
+
+// What a refused answer prints: the number, and the pair if it is a gap.
+impl fmt::Display for AnswerFault {
+    ghost output = { λ f. Some (answer_words f) };
+
+    fn fmt<W: fmt::Write>(&self, f: &mut fmt::Formatter<W>) -> fmt::Result {
+        let number = self.number();
+        match self {
+            AnswerFault::Gap(a, b) => write!(f, "refused {number}: the pair {a}, {b} is a gap"),
+            _ => write!(f, "refused {number}"),
+        }
+    }
+}
+
+impl Error for AnswerFault {}
 
 // A sheet's marks and ties are of the same units, so the search does not answer that they differ.
 impl From<SearchFault> for AnswerFault {

@@ -1,21 +1,10 @@
 // Three units with the marks 2, 7 and 4.
-use marks::marks::Marks;
+use samples::sheets::three;
 use std::test::Fail;
 use yardsticks::gradient::{Grades, Gradient};
 use yardsticks::spread::Spread;
 use yardsticks::target::Target;
 use yardsticks::total::total;
-
-// The marks 2 of 1 and 2, 7 of 1 and 3, 4 of 2 and 3.
-fn three() -> Result<Marks, Fail> {
-    let Some(mut marks) = Marks::new(3) else {
-        return Err(Fail::new("no sheet of three units"));
-    };
-    marks.put(1, 2, 2)?;
-    marks.put(1, 3, 7)?;
-    marks.put(2, 3, 4)?;
-    Ok(marks)
-}
 
 fn grades(signs: i32, rises: i32) -> Grades {
     Grades { signs, rises }
@@ -23,7 +12,7 @@ fn grades(signs: i32, rises: i32) -> Grades {
 
 #[test]
 fn spread(rt: HostRuntime) -> Result<(), Fail> {
-    let marks = three()?;
+    let marks = three(2, 7, 4)?;
     assert_eq!(rt; total::<Spread>(&marks, &[1, 2, 3]), Some(206));
     assert_eq!(rt; total::<Spread>(&marks, &[3, 2, 1, 9]), Some(206));
     Ok(())
@@ -31,7 +20,7 @@ fn spread(rt: HostRuntime) -> Result<(), Fail> {
 
 #[test]
 fn gradients(rt: HostRuntime) -> Result<(), Fail> {
-    let marks = three()?;
+    let marks = three(2, 7, 4)?;
     assert_eq!(rt; total::<Gradient>(&marks, &[1, 3, 2]), Some(grades(-2, -7)));
     assert_eq!(rt; total::<Gradient>(&marks, &[1, 2, 3]), Some(grades(2, 8)));
     assert_eq!(rt; total::<Gradient>(&marks, &[2, 1, 3]), Some(grades(0, -1)));
@@ -55,7 +44,7 @@ fn grades_compared_and_printed(rt: HostRuntime) -> Result<(), Fail> {
 
 #[test]
 fn target(rt: HostRuntime) -> Result<(), Fail> {
-    let marks = three()?;
+    let marks = three(2, 7, 4)?;
     assert_eq!(rt; total::<Target>(&marks, &[2, 1, 3]), Some(17));
     assert_eq!(rt; total::<Target>(&marks, &[1, 2, 3]), Some(20));
     Ok(())
@@ -63,7 +52,7 @@ fn target(rt: HostRuntime) -> Result<(), Fail> {
 
 #[test]
 fn no_order(rt: HostRuntime) -> Result<(), Fail> {
-    let marks = three()?;
+    let marks = three(2, 7, 4)?;
     assert_eq!(rt; total::<Spread>(&marks, &[1, 2]), None);
     assert_eq!(rt; total::<Spread>(&marks, &[1, 2, 2]), None);
     assert_eq!(rt; total::<Target>(&marks, &[1, 2, 4]), None);
