@@ -9,7 +9,7 @@ const TRIES: u32 = 200;
 fn draw_order(numbers: &mut Numbers, sheet: &Sheet) -> Row {
     let units = sheet.marks.size();
     let mut row = first_row(units);
-    numbers.shuffle(&mut row[..units.count()]);
+    numbers.shuffle(&mut row[..units.count]);
     row
 }
 

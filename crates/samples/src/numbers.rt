@@ -26,7 +26,7 @@ impl Numbers {
 
     // The label of one of some units.
     pub fn label(&mut self, units: Units) -> usize {
-        self.below(units.count() as u64) as usize + 1
+        self.below(units.count as u64) as usize + 1
     }
 
     // Puts some units into a pseudo-random order. An index, since two places are exchanged.

@@ -10,7 +10,7 @@ pub const REST: u8 = 99;
 // A row with the first order of some units: 1, 2, 3 and so on.
 pub fn first_row(units: Units) -> Row {
     let mut row = [REST; 20];
-    for (place, label) in row[..units.count()].iter_mut().zip(1..) {
+    for (place, label) in row[..units.count].iter_mut().zip(1..) {
         *place = label;
     }
     row

@@ -20,8 +20,8 @@ pub const ROW: [u8; 20] = [
 fn draw_marks(numbers: &mut Numbers, units: Units) -> Marks {
     let mut marks = Marks::blank(units);
     let greatest = numbers.below(4);
-    for a in 1..=units.count() {
-        for b in a + 1..=units.count() {
+    for a in 1..=units.count {
+        for b in a + 1..=units.count {
             let _ = marks.put(a, b, numbers.below(greatest + 1) as u16);
         }
     }
@@ -31,7 +31,7 @@ fn draw_marks(numbers: &mut Numbers, units: Units) -> Marks {
 // At most as many ties as there are units, some of them in circles. No unit is tied before itself.
 fn draw_ties(numbers: &mut Numbers, units: Units) -> Ties {
     let mut ties = Ties::none(units);
-    for _ in 0..numbers.below(units.count() as u64 + 1) {
+    for _ in 0..numbers.below(units.count as u64 + 1) {
         let a = numbers.label(units);
         let b = numbers.label(units);
         let _ = ties.set(a, b, true);

@@ -58,11 +58,11 @@ pub fn search_all<Y: Plain>(
     let units = sheet.marks.size();
     let mut row = first_row(units);
     for _ in 0..MOST {
-        if keeps_ties(&sheet.ties, &row[..units.count()]) {
+        if keeps_ties(&sheet.ties, &row[..units.count]) {
             let total = Y::plain_total(&sheet.marks, &row);
             best = with_order(heap, best, total, row)?;
         }
-        if !advance(&mut row[..units.count()]) {
+        if !advance(&mut row[..units.count]) {
             break;
         }
     }
