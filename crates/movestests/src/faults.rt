@@ -1,5 +1,5 @@
 // Each fault, with the row as it was, and which of two comes first.
-use crate::sheets::three;
+use crate::sheets::{improved, three};
 use moves::improve::MoveFault;
 use moves::insertion::Insertion;
 use moves::interchange::Interchange;
@@ -10,7 +10,7 @@ fn other_units(rt: HostRuntime) {
     let sheet = three(4).expect(&rt, "three units");
     let mut row = [1, 3];
     assert_eq!(rt;
-        sheet.improve::<Interchange>(2, &mut row),
+        improved::<Interchange>(&sheet, 2, &mut row),
         Err(MoveFault::Units)
     );
     assert_eq!(rt; row, [1, 3]);
@@ -21,7 +21,7 @@ fn short_row(rt: HostRuntime) {
     let sheet = three(3).expect(&rt, "three units");
     let mut row = [1, 1];
     assert_eq!(rt;
-        sheet.improve::<Insertion>(2, &mut row),
+        improved::<Insertion>(&sheet, 2, &mut row),
         Err(MoveFault::Short)
     );
     assert_eq!(rt; row, [1, 1]);
@@ -32,13 +32,13 @@ fn no_order(rt: HostRuntime) {
     let sheet = three(3).expect(&rt, "three units");
     let mut row = [1, 3, 1, 2];
     assert_eq!(rt;
-        sheet.improve::<Interchange>(2, &mut row),
+        improved::<Interchange>(&sheet, 2, &mut row),
         Err(MoveFault::NoOrder)
     );
     assert_eq!(rt; row, [1, 3, 1, 2]);
     let mut high = [1, 2, 4];
     assert_eq!(rt;
-        sheet.improve::<Insertion>(2, &mut high),
+        improved::<Insertion>(&sheet, 2, &mut high),
         Err(MoveFault::NoOrder)
     );
     assert_eq!(rt; high, [1, 2, 4]);
@@ -50,13 +50,13 @@ fn against_a_tie(rt: HostRuntime) {
     assert_eq!(rt; sheet.ties.set(2, 3, true), Ok(()));
     let mut row = [1, 3, 2];
     assert_eq!(rt;
-        sheet.improve::<Interchange>(2, &mut row),
+        improved::<Interchange>(&sheet, 2, &mut row),
         Err(MoveFault::Against)
     );
     assert_eq!(rt; row, [1, 3, 2]);
     let mut twice = [3, 2, 2];
     assert_eq!(rt;
-        sheet.improve::<Interchange>(2, &mut twice),
+        improved::<Interchange>(&sheet, 2, &mut twice),
         Err(MoveFault::NoOrder)
     );
     assert_eq!(rt; twice, [3, 2, 2]);

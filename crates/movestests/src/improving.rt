@@ -1,5 +1,5 @@
 // What improving answers, and what it leaves in the row.
-use crate::sheets::three;
+use crate::sheets::{improved, three};
 use moves::improve::{Improvement, MoveFault};
 use moves::insertion::Insertion;
 use moves::interchange::Interchange;
@@ -18,7 +18,7 @@ fn two_interchanges(rt: HostRuntime) {
     let sheet = three(3).expect(&rt, "three units");
     let mut row = [1, 3, 2];
     assert_eq!(rt;
-        sheet.improve::<Interchange>(2, &mut row),
+        improved::<Interchange>(&sheet, 2, &mut row),
         reached(2, 206, true)
     );
     assert_eq!(rt; row, [3, 2, 1]);
@@ -29,11 +29,11 @@ fn settled_below_the_limit(rt: HostRuntime) {
     let sheet = three(3).expect(&rt, "three units");
     let mut row = [1, 3, 2];
     assert_eq!(rt;
-        sheet.improve::<Interchange>(9, &mut row),
+        improved::<Interchange>(&sheet, 9, &mut row),
         reached(2, 206, true)
     );
     assert_eq!(rt;
-        sheet.improve::<Interchange>(0, &mut row),
+        improved::<Interchange>(&sheet, 0, &mut row),
         reached(0, 206, true)
     );
     assert_eq!(rt; row, [3, 2, 1]);
@@ -44,7 +44,7 @@ fn one_interchange(rt: HostRuntime) {
     let sheet = three(3).expect(&rt, "three units");
     let mut row = [1, 3, 2];
     assert_eq!(rt;
-        sheet.improve::<Interchange>(1, &mut row),
+        improved::<Interchange>(&sheet, 1, &mut row),
         reached(1, 182, false)
     );
     assert_eq!(rt; row, [3, 1, 2]);
@@ -55,7 +55,7 @@ fn no_interchange(rt: HostRuntime) {
     let sheet = three(3).expect(&rt, "three units");
     let mut row = [1, 3, 2, 77, 78];
     assert_eq!(rt;
-        sheet.improve::<Interchange>(0, &mut row),
+        improved::<Interchange>(&sheet, 0, &mut row),
         reached(0, 126, false)
     );
     assert_eq!(rt; row, [1, 3, 2, 77, 78]);
@@ -66,12 +66,12 @@ fn insertions(rt: HostRuntime) {
     let sheet = three(3).expect(&rt, "three units");
     let mut row = [1, 3, 2, 77];
     assert_eq!(rt;
-        sheet.improve::<Insertion>(1, &mut row),
+        improved::<Insertion>(&sheet, 1, &mut row),
         reached(1, 182, false)
     );
     assert_eq!(rt; row, [3, 1, 2, 77]);
     assert_eq!(rt;
-        sheet.improve::<Insertion>(1, &mut row),
+        improved::<Insertion>(&sheet, 1, &mut row),
         reached(1, 206, true)
     );
     assert_eq!(rt; row, [1, 2, 3, 77]);
@@ -84,7 +84,7 @@ fn ties_are_kept(rt: HostRuntime) {
     assert_eq!(rt; sheet.ties.set(1, 3, true), Ok(()));
     let mut row = [1, 3, 2, 77];
     assert_eq!(rt;
-        sheet.improve::<Interchange>(9, &mut row),
+        improved::<Interchange>(&sheet, 9, &mut row),
         reached(1, 206, true)
     );
     assert_eq!(rt; row, [1, 2, 3, 77]);
