@@ -44,10 +44,8 @@ fn strangers_first(rt: HostRuntime) -> Result<(), Fail> {
     let mut sheet = three()?;
     assert_eq!(rt; sheet.write(4, 4, 10001), FIRST);
     assert_eq!(rt; sheet.write(0, 1, 5), FIRST);
-    assert_eq!(rt; sheet.write(4, 5, 1), FIRST);
     assert_eq!(rt; sheet.blank(1, u64::MAX), SECOND);
     assert_eq!(rt; sheet.tie(1, 4), SECOND);
-    assert_eq!(rt; sheet.tie(1, 5), SECOND);
     assert_eq!(rt; sheet.untie(0, 0), FIRST);
     same(&rt, &sheet);
     Ok(())
@@ -59,10 +57,18 @@ fn then_itself_then_mark(rt: HostRuntime) -> Result<(), Fail> {
     assert_eq!(rt; sheet.write(2, 2, 10001), Err(SheetFault::Itself(2, 2)));
     assert_eq!(rt; sheet.blank(2, 2), Err(SheetFault::Itself(2, 2)));
     assert_eq!(rt; sheet.tie(3, 3), Err(SheetFault::Itself(3, 3)));
-    assert_eq!(rt; sheet.tie(1, 1), Err(SheetFault::Itself(1, 1)));
     assert_eq!(rt; sheet.untie(1, 1), Err(SheetFault::Itself(1, 1)));
     assert_eq!(rt; sheet.write(1, 2, 10001), Err(SheetFault::High));
     same(&rt, &sheet);
+    Ok(())
+}
+
+#[test]
+fn which_label(rt: HostRuntime) -> Result<(), Fail> {
+    let mut sheet = three()?;
+    assert_eq!(rt; sheet.write(4, 5, 1), FIRST);
+    assert_eq!(rt; sheet.tie(1, 5), SECOND);
+    assert_eq!(rt; sheet.tie(1, 1), Err(SheetFault::Itself(1, 1)));
     Ok(())
 }
 
