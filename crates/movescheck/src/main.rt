@@ -4,9 +4,8 @@
 
 use anyhow::Context;
 use compare::{Tally, compare_sheet};
-use marks::units::Units;
 use samples::numbers::Numbers;
-use samples::sheets::Sheet;
+use samples::sheets::draw;
 
 mod compare;
 mod orders;
@@ -17,10 +16,9 @@ const SHEETS: u64 = 60;
 
 // Compares all sheets of some units, and prints how many they were. Answers how many disagreements there were.
 fn compare_units(rt: &HostRuntime, numbers: &mut Numbers, units: u64) -> anyhow::Result<u64> {
-    let size = Units::new(units).context("no such sheet")?;
     let mut tally = Tally::default();
     for _ in 0..SHEETS {
-        let sheet = Sheet::draw(numbers, size);
+        let sheet = draw(numbers, units).context("no such sheet")?;
         compare_sheet(numbers, &sheet, &mut tally);
     }
     let Tally {

@@ -1,8 +1,6 @@
 // Pseudo-random numbers: a linear congruential generator, the same numbers in each run.
 ghost use Rattle.std.specs.Prelude.{◌-◌, ◌≤◌};
 
-use marks::units::Units;
-
 #[derive(Drop)]
 pub struct Numbers {
     state: u64,
@@ -25,8 +23,8 @@ impl Numbers {
     }
 
     // The label of one of some units.
-    pub fn label(&mut self, units: Units) -> usize {
-        self.below(units.count as u64) as usize + 1
+    pub fn label(&mut self, units: u64) -> usize {
+        self.below(units) as usize + 1
     }
 
     // Puts some units into a pseudo-random order. An index, since two places are exchanged.

@@ -31,21 +31,21 @@ fn draw_marks(numbers: &mut Numbers, units: Units) -> Marks {
 // At most as many ties as there are units, some of them in circles. No unit is tied before itself.
 fn draw_ties(numbers: &mut Numbers, units: Units) -> Ties {
     let mut ties = Ties::none(units);
-    for _ in 0..numbers.below(units.count as u64 + 1) {
-        let a = numbers.label(units);
-        let b = numbers.label(units);
+    let count = units.count as u64;
+    for _ in 0..numbers.below(count + 1) {
+        let a = numbers.label(count);
+        let b = numbers.label(count);
         let _ = ties.set(a, b, true);
     }
     ties
 }
 
-impl Sheet {
-    // A pseudo-random sheet of some units.
-    pub fn draw(numbers: &mut Numbers, units: Units) -> Sheet {
-        let marks = draw_marks(numbers, units);
-        let ties = draw_ties(numbers, units);
-        Sheet { marks, ties }
-    }
+// A pseudo-random sheet of some units; none unless there are 2 to 20.
+pub fn draw(numbers: &mut Numbers, units: u64) -> Option<Sheet> {
+    let units = Units::new(units)?;
+    let marks = draw_marks(numbers, units);
+    let ties = draw_ties(numbers, units);
+    Some(Sheet { marks, ties })
 }
 
 // Three units: the mark of 1 and 2, of 1 and 3, and of 2 and 3.

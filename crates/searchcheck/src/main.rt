@@ -4,9 +4,8 @@
 
 use anyhow::Context;
 use compare::{Tally, compare_sheet};
-use marks::units::Units;
 use samples::numbers::Numbers;
-use samples::sheets::Sheet;
+use samples::sheets::draw;
 use twenty::show_twenty;
 
 mod asked;
@@ -25,10 +24,10 @@ fn sheet_count(units: u64) -> u64 {
 
 // Compares all sheets of some units, and prints how many they were. Answers how many disagreements there were.
 fn compare_units(rt: &HostRuntime, numbers: &mut Numbers, units: u64) -> anyhow::Result<u64> {
-    let size = Units::new(units).context("no such sheet")?;
     let mut tally = Tally::default();
     for _ in 0..sheet_count(units) {
-        compare_sheet(rt.alloc(), &Sheet::draw(numbers, size), &mut tally)?;
+        let sheet = draw(numbers, units).context("no such sheet")?;
+        compare_sheet(rt.alloc(), &sheet, &mut tally)?;
     }
     let Tally {
         sheets,
