@@ -7,10 +7,6 @@ use Rattle.search.specs.Tables.{Filled}
 use Rattle.search.specs.Above.{FilledFrom, Room}
 
 module _ {T : Type 0} (numbers : T → List ℤ) (y : Merit) (p : ℕ → ℕ → ℕ) (tied : ℕ → ℕ → Bool) (n : ℕ) (totals : List T) (counts : List ℕ) where
-  -- no cell yet
-  pub none_filled : FilledFrom numbers y p tied n (2 ^ n) totals counts
-  none_filled = record { total = λ A d l k. absurd (omega arith); count = λ A l k. absurd (omega arith) }
-
   -- one cell more
   pub one_filled : (A : ℕ) (t : T) (c : ℕ) → A < 2 ^ n → Room n totals counts → FilledFrom numbers y p tied n (A + 1) totals counts
       → numbers t ≡ total_cell y p tied n A → c ≡ count_cell y p tied n A
@@ -27,10 +23,6 @@ module _ {T : Type 0} (numbers : T → List ℤ) (y : Merit) (p : ℕ → ℕ �
       | inr ne ↦ get_or-set_other counts A B c 0 ne ∙ old.count B (omega arith) k
     ];
   }
-
-  -- all cells
-  pub all_filled : FilledFrom numbers y p tied n 0 totals counts → Filled numbers y p tied n totals counts
-  all_filled h = record { total = λ A d l. h.total A d (omega arith) l; count = λ A l. h.count A (omega arith) l }
 
 -- filled tables are filled from every set on
 pub from_filled : {T : Type 0} {numbers : T → List ℤ} {y : Merit} {p : ℕ → ℕ → ℕ} {tied : ℕ → ℕ → Bool} {n : ℕ} {totals : List T} {counts : List ℕ} (a : ℕ)

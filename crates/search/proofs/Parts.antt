@@ -1,5 +1,5 @@
 -- Whether one set is within another, by their bits and label by label.
-use Rattle.std.proofs.Common.{◌≡◌, ℕ, zero, suc, ◌+◌, ◌-◌, ◌*◌, ◌/◌, ◌%◌, ◌^◌, ◌<◌, ◌≤◌, min, Bool, true, false, not, ◌||◌, eqb, List, [], ◌∷◌, sym, refl, ap, ◌∙◌, subst, inl, inr, div-one, arith}
+use Rattle.std.proofs.Common.{◌≡◌, ℕ, zero, suc, ◌+◌, ◌-◌, ◌*◌, ◌/◌, ◌%◌, ◌^◌, ◌<◌, ◌≤◌, min, Bool, true, false, not, ◌||◌, eqb, List, sym, refl, ap, ◌∙◌, subst, inl, inr, div-one, arith}
 use native.Mathlib.Nat.{pow-succ'}
 use lib.Bits.{bit_and, and_step, and_le_r, and_shr, and_mod, and_zero_l}
 use Rattle.std.specs.List.{list_all}
@@ -10,7 +10,7 @@ use Rattle.rules.specs.Units.{labels, has}
 use Rattle.rules.specs.Orders.{follows}
 use Rattle.rules.proofs.Tests.{or_then, then_or, refuted}
 use Rattle.rules.proofs.Sets.{label_low, label_high, label_from}
-use Rattle.rules.proofs.Members.{In, in_parts, all_of_in, in_all_of}
+use Rattle.rules.proofs.Members.{In, all_of_in, in_all_of}
 use Rattle.rules.proofs.Ways.{label_in, in_label}
 use Rattle.search.specs.Parts.{part_of}
 
@@ -69,18 +69,6 @@ pub follows_part : (tied : ℕ → ℕ → Bool) (n B A j : ℕ) → ((a : ℕ) 
 follows_part tied n B A j h =
     all_same (λ a. not (has B a) || has A a) (λ a. not (tied a j) || has A a) (labels n)
     (λ a i. ap (λ (b : Bool). not b || has A a) (h a (label_low n a (in_label n a i))))
-
--- a test of the labels, one label more
-pub labels_more : (f : ℕ → Bool) (m : ℕ) → list_all f (labels m) ≡ true → f (suc m) ≡ true → list_all f (labels (suc m)) ≡ true
-labels_more f m h e = in_all_of f (labels (suc m)) (λ x i. elim (in_parts x (labels m) (suc m ∷ []) i) [
-  | inl k ↦ all_of_in f (labels m) h x k
-  | inr (inl q) ↦ subst (λ (z : ℕ). f z ≡ true) (sym q) e
-  | inr (inr z) ↦ absurd z
-])
-
-pub labels_fail : (f : ℕ → Bool) (n m : ℕ) → m < n → f (suc m) ≡ false → list_all f (labels n) ≡ false
-labels_fail f n m l e = refuted (list_all f (labels n)) (λ h. both_ways (f (suc m)) e
-    (all_of_in f (labels n) h (suc m) (label_in n (suc m) (label_from n (suc m) (omega arith) (omega arith)))))
 
 -- the test of all labels, by what a search of them answers
 pub labels_all : (f : ℕ → Bool) (n : ℕ) (r : Bool)

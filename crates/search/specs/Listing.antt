@@ -1,5 +1,5 @@
 -- What is read off filled tables of a sheet, in the rulebook's words.
-use Rattle.std.specs.Prelude.{ℕ, cond, List, [], ℤ, slice_index_or}
+use Rattle.std.specs.Prelude.{ℕ, cond, List, [], slice_index_or}
 use Rattle.rules.specs.Orders.{ready, ready_units}
 use Rattle.rules.specs.Yardsticks.{Merit}
 use Rattle.rules.specs.Ranking.{listed, count_cell}
@@ -8,14 +8,6 @@ use Rattle.marks.specs.declared.marks.Marks.{Marks}
 use Rattle.marks.specs.declared.ties.Ties.{Ties}
 use Rattle.marks.specs.Numbers.{units_of, numbers_of}
 use Rattle.marks.specs.Tied.{tied_of}
-use Rattle.search.specs.Tables.{Filled}
-use Rattle.search.specs.Above.{Sound, Room}
-
--- the tables hold the cells of marks and ties of the same units, without a circle
-pub record Searched {T : Type 0} (numbers : T → List ℤ) (y : Merit) (m : Marks) (t : Ties) (totals : List T) (counts : List ℕ) : Type 0 where
-  pub sound : Sound m t
-  pub room : Room (units_of m) totals counts
-  pub filled : Filled numbers y (numbers_of m) (tied_of t) (units_of m) totals counts
 
 module _ (y : Merit) (m : Marks) (t : Ties) where
   -- the count in the cell of a set

@@ -80,7 +80,7 @@ impl<'a, Y: Yardstick> Stage<'a, Y> {
     pub(crate) fn cell(&self) -> (Y::Total, u64)
         ensures { CellOf Y.Yardstick.numbers (merit_of Y.Yardstick) self.now.tables.sheet.marks.now self.now.tables.sheet.ties.now self.now.placed result }
     {
-        // A flag, and places from 0, since an Option of both and `1..=units` cost 10 percent more instructions.
+        // A flag, and places from 0: an Option and `1..=units` cost the search by spread a quarter more instructions.
         let mut found = false;
         let mut best = Y::zero();
         let mut count = 0;
