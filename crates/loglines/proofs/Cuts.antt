@@ -1,6 +1,6 @@
 -- Where a text is cut at a byte, and that it is cut so in one way.
-use Rattle.std.specs.Prelude.{◌≡◌, ℕ, ◌≤◌, List, [], ◌∷◌, ◌++◌, length, take, drop, slice_index, Option, Some, None, MatchOption}
-use Rattle.std.proofs.Common.{sym, ap, subst, ◌∙◌, Bor, inl, inr, ⊎_elim, add-zero, arith, length-append, get_or-append-add}
+use Rattle.std.specs.Prelude.{◌≡◌, ℕ, ◌<◌, ◌≤◌, List, [], ◌∷◌, ◌++◌, length, take, drop, slice_index, Option, Some, None, MatchOption}
+use Rattle.std.proofs.Common.{sym, ap, subst, ◌∙◌, Bor, inl, inr, ⊎_elim, add-zero, arith, length-append, get_or-take, get_or-append-add, length-take-le}
 use Rattle.std.specs.List.{slice_get}
 use Rattle.std.specs.Option.{option_map}
 use Rattle.std.proofs.Math.Seq.{take-append_seam, drop-append_seam}
@@ -15,6 +15,12 @@ at_seam : (w tail : List ℕ) → slice_index (w ++ tail) (length w) ≡ slice_i
 at_seam w tail = ap (λ k. slice_index (w ++ tail) k) (sym (add-zero (length w))) ∙ get_or-append-add w tail 0 0
 
 module _ (stop : ℕ) where
+  pub span_free : (s : List ℕ) (n : ℕ) → Spans stop s n → Free stop (take n s)
+  span_free s n sp i lt e =
+      let long = length-take-le n s sp.within in
+      let under : i < n = omega arith in
+      sp.before i under (sym (get_or-take n s i 0 under) ∙ e)
+
   pub span_unique : (w tail : List ℕ) (n : ℕ) → Free stop w → Stopped stop tail → Spans stop (w ++ tail) n → n ≡ length w
   span_unique w tail n free at sp =
       let long = length-append w tail in

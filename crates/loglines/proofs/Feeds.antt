@@ -1,10 +1,16 @@
 -- Cutting an input at its line feeds: what each turn keeps, and that the cut is the only one.
-use Rattle.std.proofs.Common.{◌≡◌, ℕ, ◌+◌, ◌-◌, ◌<◌, ◌⊎◌, List, [], ◌∷◌, ◌++◌, length, get_or, drop, sym, refl, ap, ◌∙◌, inl, inr, ⊎_elim, append_assoc, append-nil, arith, length-append, get_or-append-add}
+use Rattle.std.proofs.Common.{◌≡◌, ℕ, ◌+◌, ◌-◌, ◌<◌, ◌≤◌, ◌⊎◌, List, [], ◌∷◌, ◌++◌, length, get_or, take, drop, sym, refl, ap, ◌∙◌, subst, inl, inr, ⊎_elim, append_assoc, append-nil, arith, length-append, take_all, get_or-append-add}
 use Rattle.std.specs.List.{AllByRecursion}
 use Rattle.std.proofs.slice.Lists.{all_by_recursion_push}
-use Rattle.loglines.specs.Spans.{Free}
+use Rattle.loglines.specs.Spans.{Spans, Free}
 use Rattle.loglines.specs.Lines.{fed, Unended, First, OneCut}
-use Rattle.loglines.proofs.Cuts.{cut_unique}
+use Rattle.loglines.proofs.Cuts.{span_free, cut_unique}
+
+-- a last line without its line feed
+pub first_unfed : (rest line tail : List ℕ) (n : ℕ) → Spans 10 rest n → line ≡ take n rest → length rest ≤ n → 0 < length rest → tail ≡ [] → First rest line tail
+first_unfed rest line tail n sp front le some none =
+    let all : line ≡ rest = front ∙ take_all n rest le in
+    record { feedless = subst (Free 10) (sym front) (span_free 10 rest n sp); whole = inr (sym all, none, omega (arith, ap length all)) }
 
 pub first_less : (rest line tail : List ℕ) → First rest line tail → length tail < length rest
 first_less rest line tail h =

@@ -20,5 +20,11 @@ symmetric m = m.symmetric
 pub low : (m : Marks) → Low (numbers_of m)
 low m = m.low
 
+pub ties_least : (t : Ties) → 2 ≤ tied_units t
+ties_least t = t.units.least
+
+pub ties_most : (t : Ties) → tied_units t ≤ 20
+ties_most t = t.units.most
+
 pub ties_on_labels : (t : Ties) → OnLabels (tied_of t) (tied_units t)
 ties_on_labels t = on_labels t.units.count t.before

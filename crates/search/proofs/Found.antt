@@ -103,3 +103,15 @@ module _ {T : Type 0} (numbers : T → List ℤ) (y : Merit) (k : ℕ) where
         tables = tables;
         order = r;
       }
+
+-- the first two tests are passed, and there is a circle
+pub circle_left : {T : Type 0} (numbers : T → List ℤ) (y : Merit) (m : Marks) (t : Ties) (k : ℕ) (s : Lent T) (u v : ℕ)
+    → u ≡ tied_units t → v ≡ units_of m → u ≡ v → false ≡ short v (length s.totals) (length s.counts) (length s.row)
+    → false ≡ not (circular (tied_of t) (tied_units t)) → fault numbers y m t k s ≡ Some Circle
+circle_left numbers y m t k s u v e f g h q =
+    let same : tied_units t ≡ units_of m = sym e ∙ g ∙ f in
+    let enough : short (units_of m) (length s.totals) (length s.counts) (length s.row) ≡ false =
+    ap (λ (n : ℕ). short n (length s.totals) (length s.counts) (length s.row)) (sym f) ∙ sym h in
+    let circle : circular (tied_of t) (units_of m) ≡ true =
+    subst (λ (n : ℕ). circular (tied_of t) n ≡ true) same (not-false (circular (tied_of t) (tied_units t)) (sym q)) in
+    λ i. first_fault (eq-eqb (tied_units t) (units_of m) same i) (enough i) (circle i) (numbered (best_count numbers y m t) k)

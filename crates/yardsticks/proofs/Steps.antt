@@ -2,14 +2,22 @@
 use Rattle.std.proofs.Common.{◌≡◌, ℕ, zero, suc, ◌+◌, ◌-◌, ◌*◌, ◌/◌, ◌%◌, ◌^◌, ◌<◌, ◌≤◌, Bool, true, false, cond, eqb, get_or, ℤ, pos, ◌*ℤ◌, nat_abs, sym, refl, ap, ◌∙◌, div-one, arith}
 use native.Mathlib.Nat.{pow-succ', div-div-eq-div-mul}
 use lib.Count.{ones, ones_step}
+use Rattle.std.specs.List.{range_with_len}
+use Rattle.std.proofs.lemmas.Bool.{eqb-true}
 use Rattle.std.proofs.lemmas.Int.{unsigned_abs-mul}
 use Rattle.rules.specs.Units.{label, has, size, with_unit, displacement}
 use Rattle.rules.specs.Yardsticks.{places}
 use Rattle.rules.proofs.Lawfulness.{yardsticks_lawful}
+use Rattle.rules.proofs.Members.{all_of_in, in_counting}
 use Rattle.rules.proofs.Sets.{many, many_low, size_many, size_with}
 use Rattle.marks.specs.declared.marks.Marks.{Marks}
 use Rattle.marks.specs.Numbers.{units_of, numbers_of}
 use Rattle.marks.proofs.Laws.{least, most, low, symmetric}
+
+-- the rule of the place numbers, a test of the whole table
+pub place_rule : (i : ℕ) → i < 20 → get_or places i 0 ≡ i
+place_rule i h =
+    eqb-true (get_or places i 0) i (all_of_in (λ k. eqb (get_or places k 0) k) (range_with_len 0 20) refl i (in_counting 0 20 i (omega arith) (omega arith)))
 
 -- the unit j is placed after A
 module _ (m : Marks) (A j : ℕ) (below : A < 2 ^ units_of m) (is : label (units_of m) j ≡ true) (out : has A j ≡ false) where

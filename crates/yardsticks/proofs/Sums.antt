@@ -25,10 +25,13 @@ Bounded f = (a b c : ℕ) → a ≤ 10000 → b ≤ 10000 → c ≤ 10000 → na
 sign_low : (z : ℤ) → nat_abs (sign_ℤ z) ≤ 1
 sign_low z = grind (arith, ints)
 
-signs_low : Bounded signs_of
-signs_low a b c h k l = omega (arith, ints, sign_low (pos a -ℤ pos b), sign_low (pos a -ℤ pos c))
+pub signs_low : (a b c : ℕ) → nat_abs (signs_of a b c) ≤ 2
+signs_low a b c = omega (arith, ints, sign_low (pos a -ℤ pos b), sign_low (pos a -ℤ pos c))
 
-rises_low : Bounded rises_of
+signs_bounded : Bounded signs_of
+signs_bounded a b c h k l = omega (arith, signs_low a b c)
+
+pub rises_low : Bounded rises_of
 rises_low a b c h k l = omega (arith, ints)
 
 low_if : (b : Bool) (x : ℤ) (c : ℕ) → nat_abs x ≤ c → nat_abs (cond b x (pos 0)) ≤ c
@@ -109,7 +112,7 @@ module _ (adds : (ℕ → ℕ → ℕ → ℤ) → ℕ → ℤ) (few : (f : ℕ 
     (k : ℕ) (g : Grades) (sofar : Graded (λ f. sum_ℤ (adds f) (labels k)) g) where
   pub sum_fits : k < 20 → (h : Grades) → Graded (λ f. adds f (k + 1)) h → SFits w32 (g.signs +ℤ h.signs) × SFits w32 (g.rises +ℤ h.rises)
   sum_fits last h next = (
-    omega (arith, ints, sofar.0, next.0, low_sum (adds signs_of) 400000 (few signs_of signs_low) k, few signs_of signs_low (k + 1)),
+    omega (arith, ints, sofar.0, next.0, low_sum (adds signs_of) 400000 (few signs_of signs_bounded) k, few signs_of signs_bounded (k + 1)),
     omega (arith, ints, sofar.1, next.1, low_sum (adds rises_of) 400000 (few rises_of rises_low) k, few rises_of rises_low (k + 1)),
   )
 
