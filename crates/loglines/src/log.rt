@@ -56,6 +56,7 @@ fn read_lines(heap: Global, lines: &[&[u8]]) -> Result<Vec<Reading>, AllocError>
     ensures { IfOk result (λ v. Readings false (texts lines.now) v.items) }
 {
     let mut readings = Vec::new(heap);
+    // A flag, as `read` takes it.
     let mut opened = false;
     for line in lines {
         let reading = read_line(line, opened);

@@ -44,7 +44,8 @@ impl Units {
         is_label(self.count, a)
     }
 
-    // Whether a and b are the labels of two of them.
+    // Whether a and b are the labels of two of them. Labels are handed on one by one, as the calls name them: a struct of
+    // two would be longer at each call.
     pub fn has_pair(self, a: usize, b: usize) -> bool
         ensures { result ≡ pair self.count a b }
     {

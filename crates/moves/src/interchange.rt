@@ -16,6 +16,7 @@ fn places(units: usize, number: u32) -> (usize, usize)
     ensures within { (result.0 < units) × (result.1 < units) }
 {
     let mut left = number as usize - 1;
+    // A range, since u is a part of the answer.
     for u in 0..units {
         let later = units - u - 1;
         if left < later {

@@ -14,7 +14,8 @@ use marks::ties::Ties;
 use yardsticks::total::total;
 use yardsticks::yardstick::Yardstick;
 
-// The lent row, which is an order of at most twenty units, and a copy of the order as it was.
+// The lent row, which is an order of at most twenty units, and a copy of the order as it was. Fixed memory: twenty places,
+// also for fewer units.
 pub(crate) struct Trial<'a> {
     row: &'a mut [u8],
     before: [u8; 20],

@@ -14,7 +14,7 @@ use yardsticks::target::Target;
 
 const LIMITS: [u32; 4] = [0, 1, 2, 100];
 
-// What was compared so far.
+// What was compared so far. Not one type with that of the comparison of searches, which counts other things.
 #[derive(Default, Drop)]
 pub struct Tally {
     pub calls: u64,

@@ -16,7 +16,8 @@ pub fn first_row(units: Units) -> Row {
     row
 }
 
-// Makes an order the next one in label order. Answers false, and changes nothing, if it is the last one.
+// Makes an order the next one in label order. Answers false, and changes nothing, if it is the last one: a flag, since the
+// next order stands in the place of the old one.
 pub fn advance(order: &mut [u8]) -> bool {
     let Some(place) = order.windows(2).rposition(|pair| pair[0] < pair[1]) else {
         return false;

@@ -22,7 +22,7 @@ pub(crate) struct Sheet<'a> {
     ghost sound: { Sound marks.now ties.now },
 }
 
-// A sheet, and tables that have a cell for each set of its units.
+// A sheet, and tables that have a cell for each set of its units. Two tables, as callers lend them.
 pub(crate) struct Tables<'a, Y: Yardstick> {
     pub(crate) sheet: Sheet<'a>,
     pub(crate) totals: &'a [Y::Total],

@@ -13,7 +13,7 @@ use yardsticks::target::Target;
 // At most so many orders of a sheet are asked for by one yardstick; of more, some at equal distances.
 const MOST_ASKED: usize = 800;
 
-// What was compared so far.
+// What was compared so far. Not one type with that of the comparison of moves, which counts other things.
 #[derive(Default, Drop)]
 pub struct Tally {
     pub sheets: u64,

@@ -30,7 +30,7 @@ pub enum SheetFault {
 }
 
 impl SheetFault {
-    // The number that a refusal goes by.
+    // The number that a refusal goes by. It is no conversion, since a number does not say which label or pair.
     pub fn number(self) -> u8
         ensures { result ≡ number_of (sheet_refusal self) }
     {
@@ -72,7 +72,7 @@ pub enum AnswerFault {
 }
 
 impl AnswerFault {
-    // The number that a refusal goes by.
+    // The number that a refusal goes by. It is no conversion, since a number does not say which pair.
     pub fn number(self) -> u8
         ensures { result ≡ number_of (answer_refusal self) }
     {

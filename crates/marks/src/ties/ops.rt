@@ -38,7 +38,8 @@ fn changed(set: u32, unit: usize, stands: bool) -> u32
 }
 
 impl Ties {
-    // No tie among some units; none unless there are 2 to 20 units.
+    // No tie among some units; none unless there are 2 to 20 units. As for marks: a trait for both would be longer than this
+    // line.
     pub fn new(units: u64) -> Option<Ties>
         ensures { MatchOption result (is_size units ≡ false) (λ t. (is_size units ≡ true) × Untied units t) }
     {
