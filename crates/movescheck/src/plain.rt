@@ -27,7 +27,7 @@ impl PlainMove for Interchange {
 }
 
 impl PlainMove for Insertion {
-    // The unit at u changes places with its neighbours one by one.
+    // The unit at u changes places with its neighbours one by one: by place, since two places are exchanged.
     fn moved(mut row: Row, u: usize, v: usize) -> Option<Row> {
         if u == v {
             return None;
