@@ -1,7 +1,7 @@
 -- Each pair of labels up to 20 has a cell of its own.
 use Rattle.std.proofs.Common.{◌≡◌, ℕ, zero, suc, ◌+◌, ◌-◌, ◌*◌, ◌/◌, ◌<◌, ◌≤◌, min, max, Bool, true, cond, ◌&&◌, ◌||◌, leb, ◌≢◌, ◌⊎◌, List, length, get_or, set, replicate, refl, ap, inl, inr, arith}
 use Rattle.std.proofs.lemmas.Bool.Decides.{nat_tests, Decides-below_and}
-use Rattle.std.proofs.lemmas.Bool.{cases_Bool, cases_order, both_ways}
+use Rattle.std.proofs.lemmas.Bool.{cases_Bool, cases_order, both_ways, leb-true}
 use Rattle.std.proofs.lemmas.List.{get_or-set_same, get_or-set_other}
 use Rattle.rules.specs.declared.Mark.{Mark}
 use Rattle.rules.specs.declared.Mark.TheVariants.{Gap}
@@ -22,7 +22,7 @@ every_at f n e = (Decides-below_and f (λ k. f k ≡ true) (every f) (λ k. ((λ
 abbrev before : ℕ → ℕ
 before h = (h - 1) * (h - 2) / 2
 
--- the cells of two higher labels do not overlap
+-- the cells of two higher labels do not overlap, and there are 190
 apart : (h k : ℕ) → h < k → k ≤ 20 → before h + (h - 1) ≤ before k
 apart h k l m =
     let test : ℕ → ℕ → Bool = λ h k. leb k h || leb (before h + (h - 1)) (before k) in
@@ -30,6 +30,15 @@ apart h k l m =
     let of_h : every (λ k. test h k) 21 ≡ true = every_at (λ h. every (λ k. test h k) 21) 21 all h (omega arith) in
     let here : test h k ≡ true = every_at (λ k. test h k) 21 of_h k (omega arith) in
     grind (arith, nat_tests)
+
+last_cell : (h : ℕ) → h ≤ 20 → before h + (h - 1) ≤ 190
+last_cell h m =
+    let test : ℕ → Bool = λ h. leb (before h + (h - 1)) 190 in
+    let all : every test 21 ≡ true = refl in
+    leb-true _ _ (every_at test 21 all h (omega arith))
+
+pub place_within : (a b : ℕ) → Two 20 a b → place a b < 190
+place_within a b t = omega (arith, last_cell (max a b) (omega arith))
 
 -- a cell tells its pair
 place_tells : (a b x y : ℕ) → Two 20 a b → Two 20 x y → place x y ≡ place a b → same_pair a b x y ≡ true
@@ -50,14 +59,14 @@ same_place a b x y e =
     ]
 
 -- what is read after the cell of a pair is set
-pub read_set : (cells : List Mark) (a b : ℕ) (m : Mark) → length cells ≡ 190 → pair 20 a b ≡ true → place a b < 190 → (x y : ℕ)
+pub read_set : (cells : List Mark) (a b : ℕ) (m : Mark) → length cells ≡ 190 → pair 20 a b ≡ true → (x y : ℕ)
     → cond (pair 20 x y) (get_or (set cells (place a b) m) (place x y) Gap) Gap
     ≡ cond (pair 20 a b && same_pair a b x y) m (cond (pair 20 x y) (get_or cells (place x y) Gap) Gap)
-read_set cells a b m l p w x y =
+read_set cells a b m l p x y =
     let t = two 20 a b p in
     elim (cases_Bool (same_pair a b x y)) [
       | inl s ↦ (
-          let lt : place a b < length cells = omega arith in
+          let lt : place a b < length cells = omega (arith, place_within a b t) in
           let q : pair 20 x y ≡ true = grind (arith, nat_tests) in
           rw (p, s, q, same_place a b x y s, get_or-set_same))
       | inr s ↦ (elim (cases_Bool (pair 20 x y)) [

@@ -15,7 +15,7 @@ pub struct Units {
 pub(crate) fn is_label(n: usize, a: usize) -> bool
     ensures { result ≡ label n a }
 {
-    1 <= a && a <= n
+    (1..=n).contains(&a)
 }
 
 impl Units {
@@ -24,11 +24,11 @@ impl Units {
 
     pub const MOST: Units = Units { count: 20 };
 
-    // So many units; none unless they are 2 to 20.
+    // So many units; none unless they are 2 to 20. A constructor that answers none, as std has for numbers other than 0.
     pub fn new(units: u64) -> Option<Units>
         ensures { MatchOption result (is_size units ≡ false) (λ u. (is_size units ≡ true) × (u.count ≡ units)) }
     {
-        if 2 <= units && units <= 20 {
+        if (2..=20).contains(&units) {
             Some(Units {
                 count: units as usize,
             })

@@ -6,7 +6,7 @@ use moves::insertion::Insertion;
 use moves::interchange::Interchange;
 use samples::numbers::Numbers;
 use samples::plain::Plain;
-use samples::rows::{Row, keeps_ties};
+use samples::rows::{LENT, Row, keeps_ties};
 use samples::sheets::Sheet;
 use yardsticks::gradient::Gradient;
 use yardsticks::spread::Spread;
@@ -43,7 +43,7 @@ fn compare_improving<M: PlainMove, Y: Plain>(
 ) {
     let mut row = *from;
     let mut plain_row = *from;
-    let answer = improve::<M, Y>(&sheet.marks, &sheet.ties, limit, &mut row);
+    let answer = improve::<M, Y>(&sheet.marks, &sheet.ties, limit, &mut row[..LENT]);
     let plain = plain_improve::<M, Y>(sheet, limit, &mut plain_row);
     tally.note(answer == Ok(plain) && row == plain_row);
     if let Ok(found) = answer {
@@ -60,7 +60,7 @@ fn compare_against<M: PlainMove, Y: Plain>(
     tally: &mut Tally,
 ) {
     let mut row = *from;
-    let answer = improve::<M, Y>(&sheet.marks, &sheet.ties, limit, &mut row);
+    let answer = improve::<M, Y>(&sheet.marks, &sheet.ties, limit, &mut row[..LENT]);
     tally.against = tally.against.saturating_add(1);
     tally.note(answer == Err(MoveFault::Against) && row == *from);
 }

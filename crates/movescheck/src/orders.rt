@@ -6,10 +6,18 @@ use samples::sheets::Sheet;
 // So many orders are drawn to find one that keeps the ties.
 const TRIES: u32 = 200;
 
+// Puts some units into a pseudo-random order. An index, since two places are exchanged.
+fn shuffle(numbers: &mut Numbers, units: &mut [u8]) {
+    for i in 1..units.len() {
+        let other = numbers.below(i as u64 + 1) as usize;
+        units.swap(i, other);
+    }
+}
+
 fn draw_order(numbers: &mut Numbers, sheet: &Sheet) -> Row {
-    let units = sheet.marks.size();
+    let units = sheet.marks.size().count;
     let mut row = first_row(units);
-    numbers.shuffle(&mut row[..units.count]);
+    shuffle(numbers, &mut row[..units]);
     row
 }
 

@@ -26,12 +26,4 @@ impl Numbers {
     pub fn label(&mut self, units: u64) -> usize {
         self.below(units) as usize + 1
     }
-
-    // Puts some units into a pseudo-random order. An index, since two places are exchanged.
-    pub fn shuffle(&mut self, units: &mut [u8]) {
-        for i in 1..units.len() {
-            let other = self.below(i as u64 + 1) as usize;
-            units.swap(i, other);
-        }
-    }
 }

@@ -70,8 +70,6 @@ impl Plain for Target {
     }
 }
 
-const NONE: Grades = Grades { signs: 0, rises: 0 };
-
 // How far the outer mark of three units in row order is above the two inner ones, and the signs of that.
 fn graded(outer: u16, left: u16, right: u16) -> Grades
     ensures { (unsigned_abs result.signs ≤ 2) × (unsigned_abs result.rises ≤ 2 * 65535) }
@@ -90,7 +88,7 @@ fn between(marks: &Marks, first: u8, middles: &[u8], last: u8) -> Grades
     ensures { (unsigned_abs result.signs ≤ 2 * 20) × (unsigned_abs result.rises ≤ 2 * 65535 * 20) }
 {
     let outer = mark(marks, first, last);
-    let mut sum = NONE;
+    let mut sum = Grades::NONE;
     for &middle in middles {
         sum = sum + graded(outer, mark(marks, first, middle), mark(marks, middle, last));
     }
@@ -102,7 +100,7 @@ fn up_to(marks: &Marks, earlier: &[u8], last: u8) -> Grades
     requires { length earlier.now ≤ 20 }
     ensures { (unsigned_abs result.signs ≤ 2 * 20 * 20) × (unsigned_abs result.rises ≤ 2 * 65535 * 20 * 20) }
 {
-    let mut sum = NONE;
+    let mut sum = Grades::NONE;
     for (i, &first) in earlier.iter().enumerate() {
         sum = sum + between(marks, first, &earlier[i + 1..], last);
     }
@@ -112,7 +110,7 @@ fn up_to(marks: &Marks, earlier: &[u8], last: u8) -> Grades
 impl Plain for Gradient {
     fn plain_total(marks: &Marks, row: &Row) -> Grades {
         let order = &row[..marks.units()];
-        let mut sum = NONE;
+        let mut sum = Grades::NONE;
         for (i, &last) in order.iter().enumerate() {
             sum = sum + up_to(marks, &order[..i], last);
         }

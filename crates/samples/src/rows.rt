@@ -1,16 +1,18 @@
 // Rows of twenty places, of which the first ones hold an order; and all orders in label order.
 use marks::ties::Ties;
-use marks::units::Units;
 
 pub type Row = [u8; 20];
+
+// So many places of a row are lent in the comparisons: as many as the most units that they have.
+pub const LENT: usize = 8;
 
 // What the places past the order hold.
 pub const REST: u8 = 99;
 
 // A row with the first order of some units: 1, 2, 3 and so on.
-pub fn first_row(units: Units) -> Row {
+pub fn first_row(units: usize) -> Row {
     let mut row = [REST; 20];
-    for (place, label) in row[..units.count].iter_mut().zip(1..) {
+    for (place, label) in row.iter_mut().take(units).zip(1..) {
         *place = label;
     }
     row

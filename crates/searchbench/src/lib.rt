@@ -13,15 +13,15 @@ use yardsticks::yardstick::Yardstick;
 // The marks of a sheet, from the rows of a square table one after another; pairs that are missing are 0.
 fn sheet(units: Units, table: &[u16]) -> Marks {
     let mut marks = Marks::blank(units);
-    for (i, mark) in table.iter().enumerate() {
-        if i / 32 < i % 32 {
-            let _ = marks.put(i / 32 + 1, i % 32 + 1, *mark);
+    for (i, row) in table.chunks(32).enumerate() {
+        for (j, mark) in row.iter().enumerate().skip(i + 1) {
+            let _ = marks.put(i + 1, j + 1, *mark);
         }
     }
     marks
 }
 
-// Fills both tables and writes the first best order; answers the count, and 0 for a refusal.
+// Fills both tables and writes the first best order; answers the count, and 0 for a refusal, as C reads it.
 fn searched<Y: Yardstick>(
     units: Units,
     table: &[u16],
@@ -64,8 +64,7 @@ pub extern "C" fn searched_by_gradient(
     let Some(units) = Units::new(units as u64) else {
         return 0;
     };
-    let none = Grades { signs: 0, rises: 0 };
-    let Ok(mut totals) = Vec::from_elem(heap, none, counts.len()) else {
+    let Ok(mut totals) = Vec::from_elem(heap, Grades::NONE, counts.len()) else {
         return 0;
     };
     searched::<Gradient>(units, table, totals.as_mut_slice(), counts, row)

@@ -1,5 +1,5 @@
 // What the search over sets answers for a sheet of at most eight units.
-use samples::rows::Row;
+use samples::rows::{LENT, Row};
 use samples::sheets::Sheet;
 use search::best::{SearchFault, best};
 use std::alloc::{AllocError, Global};
@@ -25,9 +25,14 @@ impl<'a, Y: Yardstick> Asked<'a, Y> {
         })
     }
 
-    // The greatest total and the count, with the k-th best order in the row.
+    // The greatest total and the count, with the k-th best order in the row; the tables are 0 before.
     pub fn best(&mut self, k: u64, row: &mut Row) -> Result<(Y::Total, u64), SearchFault> {
         let Sheet { marks, ties } = self.sheet;
+        for total in self.totals.iter_mut() {
+            *total = Y::zero();
+        }
+        self.counts.fill(0);
+        let row = &mut row[..LENT];
         best::<Y>(marks, ties, k, &mut self.totals, &mut self.counts, row)
     }
 }

@@ -56,7 +56,7 @@ pub fn search_all<Y: Plain>(
 ) -> Result<Option<Best<Y::Total>>, AllocError> {
     let mut best = None;
     let units = sheet.marks.size();
-    let mut row = first_row(units);
+    let mut row = first_row(units.count);
     for _ in 0..MOST {
         if keeps_ties(&sheet.ties, &row[..units.count]) {
             let total = Y::plain_total(&sheet.marks, &row);

@@ -22,7 +22,7 @@ fn show(rt: &HostRuntime, cells: usize, k: u64) -> anyhow::Result<Option<u64>> {
             Ok(Some(count))
         }
         Err(fault) => {
-            println!(rt; "twenty units, tables of {cells} cells, order {k}: {fault:?}")?;
+            println!(rt; "twenty units, tables of {cells} cells, order {k}: {fault}")?;
             Ok(None)
         }
     }

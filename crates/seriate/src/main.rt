@@ -22,9 +22,7 @@ fn run(rt: &HostRuntime) -> anyhow::Result<()> {
     let mut row = [0; 12];
     fill(&mut sheet)?;
     println!(rt; "twelve units, one pair not compared")?;
-    if let Err(refusal) = show::<Spread>(rt, &sheet, "spread", &mut row) {
-        println!(rt; "{refusal}")?;
-    }
+    show::<Spread>(rt, &sheet, "spread", &mut row)?;
     complete(&mut sheet)?;
     println!(rt; "all pairs compared")?;
     show::<Gradient>(rt, &sheet, "gradient", &mut row)?;

@@ -9,16 +9,23 @@ const SETS: usize = 4096;
 // How many best orders are shown at most.
 const SHOWN: u64 = 4;
 
-// Asks for the k-th best order. Answers the greatest total and how many orders reach it.
+// Asks for the k-th best order, and prints the refusal if there is none. Answers the greatest total and how many orders
+// reach it.
 fn ask<Y: Yardstick>(
     rt: &HostRuntime,
     sheet: &Sheet,
     k: u64,
     row: &mut [u8; 12],
-) -> anyhow::Result<(Y::Total, u64)> {
+) -> anyhow::Result<Option<(Y::Total, u64)>> {
     let mut totals = vec![in rt.alloc(); Y::zero(); SETS]?;
     let mut counts = vec![in rt.alloc(); 0; SETS]?;
-    Ok(sheet.rank::<Y>(k, &mut totals, &mut counts, row)?)
+    match sheet.rank::<Y>(k, &mut totals, &mut counts, row) {
+        Ok(answer) => Ok(Some(answer)),
+        Err(refusal) => {
+            println!(rt; "{refusal}")?;
+            Ok(None)
+        }
+    }
 }
 
 // Prints the first of some best orders.
@@ -41,7 +48,9 @@ pub fn show<Y: Yardstick>(
 where
     Y::Total: Display,
 {
-    let (total, count) = ask::<Y>(rt, sheet, 1, row)?;
+    let Some((total, count)) = ask::<Y>(rt, sheet, 1, row)? else {
+        return Ok(());
+    };
     println!(rt; "by {name}: total {total}, best orders {count}")?;
     list::<Y>(rt, sheet, count)
 }

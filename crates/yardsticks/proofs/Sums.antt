@@ -48,6 +48,10 @@ low_sum f c h (suc m) = omega (arith, ints, sum_last f (labels m) (suc m), low_s
 with_next : (f : ℕ → ℤ) (k : ℕ) → sum_ℤ f (labels (k + 1)) ≡ sum_ℤ f (labels k) +ℤ f (k + 1)
 with_next f k = rw (add-one k) (sum_last f (labels k) (suc k))
 
+-- a sum with the next label
+pub sum_next : (f : ℕ → ℤ) (k : ℕ) (x z : ℤ) → x ≡ sum_ℤ f (labels k) → z ≡ f (k + 1) → x +ℤ z ≡ sum_ℤ f (labels (k + 1))
+sum_next f k x z h e = (λ i. h i +ℤ e i) ∙ sym (with_next f k)
+
 -- the marks of the unit j, at the places of its row
 pub row_mark : (m : Marks) (j : ℕ) (row : List ℕ) → RowOf m j row → (n k : ℕ) → n ≡ units_of m → k < length (take n row)
     → (k < 20) × (get_or (take n row) k 0 ≡ numbers_of m j (k + 1))
@@ -116,12 +120,12 @@ module _ (adds : (ℕ → ℕ → ℕ → ℤ) → ℕ → ℤ) (few : (f : ℕ 
     omega (arith, ints, sofar.1, next.1, low_sum (adds rises_of) 400000 (few rises_of rises_low) k, few rises_of rises_low (k + 1)),
   )
 
-  pub sum_next : (h r : Grades) → Graded (λ f. adds f (k + 1)) h → (r.signs ≡ g.signs +ℤ h.signs) × (r.rises ≡ g.rises +ℤ h.rises)
+  pub graded_next : (h r : Grades) → Graded (λ f. adds f (k + 1)) h → (r.signs ≡ g.signs +ℤ h.signs) × (r.rises ≡ g.rises +ℤ h.rises)
       → Graded (λ f. sum_ℤ (adds f) (labels (k + 1))) r
-  sum_next h r next e = (
-    e.0 ∙ ((λ t. sofar.0 t +ℤ next.0 t) ∙ sym (with_next (adds signs_of) k)),
-    e.1 ∙ ((λ t. sofar.1 t +ℤ next.1 t) ∙ sym (with_next (adds rises_of) k)),
+  graded_next h r next e = (
+    e.0 ∙ sum_next (adds signs_of) k _ _ sofar.0 next.0,
+    e.1 ∙ sum_next (adds rises_of) k _ _ sofar.1 next.1,
   )
 
   pub sum_same : (adds signs_of (k + 1) ≡ pos 0) × (adds rises_of (k + 1) ≡ pos 0) → Graded (λ f. sum_ℤ (adds f) (labels (k + 1))) g
-  sum_same none = sum_next (record { signs = pos 0; rises = pos 0 }) g (sym none.0, sym none.1) (omega (arith, ints), omega (arith, ints))
+  sum_same none = graded_next (record { signs = pos 0; rises = pos 0 }) g (sym none.0, sym none.1) (omega (arith, ints), omega (arith, ints))

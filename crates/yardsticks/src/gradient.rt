@@ -23,7 +23,10 @@ pub struct Grades {
     pub rises: i32,
 }
 
-const NONE: Grades = Grades { signs: 0, rises: 0 };
+impl Grades {
+    // 0 in both numbers.
+    pub const NONE: Grades = Grades { signs: 0, rises: 0 };
+}
 
 impl Add for Grades {
     type Output = Grades;
@@ -104,7 +107,7 @@ impl Placing<'_> {
         requires { left ≡ numbers_of self.now.marks.now self.now.unit i }
         ensures { Graded (λ f. past (at f (numbers_of self.now.marks.now) self.now.unit i) (units_of self.now.marks.now) self.now.placed self.now.unit) result }
     {
-        let mut sum = NONE;
+        let mut sum = Grades::NONE;
         for (k, right) in self.row[..self.marks.units()].iter().enumerate() {
             if self.comes_later(k + 1) {
                 sum = sum + compared(self.marks.mark(i, k + 1), left, *right);
@@ -117,7 +120,7 @@ impl Placing<'_> {
     fn step(&self) -> Grades
         ensures { Graded (λ f. sum_ℤ (behind (at f (numbers_of self.now.marks.now) self.now.unit) (units_of self.now.marks.now) self.now.placed self.now.unit) (labels (units_of self.now.marks.now))) result }
     {
-        let mut sum = NONE;
+        let mut sum = Grades::NONE;
         for (i, left) in self.row[..self.marks.units()].iter().enumerate() {
             if has(self.placed, i + 1) {
                 sum = sum + self.past(i + 1, *left);
@@ -163,7 +166,7 @@ impl Yardstick for Gradient {
     ghost step_within = { yardsticks_lawful.1.0.step_within };
 
     fn zero() -> Grades {
-        NONE
+        Grades::NONE
     }
 
     fn add(s: Grades, t: Grades) -> Grades {

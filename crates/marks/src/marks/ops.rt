@@ -11,7 +11,7 @@ use crate::rows::is_order;
 use crate::sets::has;
 use crate::units::Units;
 
-// The cell of the mark of two units.
+// The cell of the mark of two units. Labels are plain numbers, as callers hand them in.
 fn place(a: usize, b: usize) -> usize
     requires { (label 20 a ≡ true) × (label 20 b ≡ true) }
     ensures is { result ≡ place a b }
@@ -115,7 +115,8 @@ impl Marks {
         }
     }
 
-    // The order that a row begins with: as many labels as there are units. None unless they are an order.
+    // The order that a row begins with: as many labels as there are units. None unless they are an order. A slice, since what
+    // callers go on to say of it is about the marks too.
     pub fn order_in<'a>(&self, row: &'a [u8]) -> Option<&'a [u8]>
         ensures { MatchOption result (is_order (units_of self.now) (take (units_of self.now) row.now) ≡ false) (λ order.
             (order.now ≡ take (units_of self.now) row.now) × (is_order (units_of self.now) order.now ≡ true)) }

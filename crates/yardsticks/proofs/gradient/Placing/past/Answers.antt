@@ -2,7 +2,7 @@ use Rattle.std.proofs.Common.{◌+◌, sym, ◌∙◌, subst}
 use Rattle.yardsticks.specs.declared.gradient.Grades.{Grades}
 use Rattle.yardsticks.specs.Gradients.{Graded}
 use Rattle.rules.specs.Units.{labels, sum_ℤ}
-use Rattle.yardsticks.proofs.Sums.{row_mark, inner, inner_low, later_adds, other_adds, sum_fits, sum_next, sum_same}
+use Rattle.yardsticks.proofs.Sums.{row_mark, inner, inner_low, later_adds, other_adds, sum_fits, graded_next, sum_same}
 use Rattle.yardsticks.proofs.gradient.Placing.past.Goals as goal
 use Rattle.yardsticks.proofs.gradient.Placing.past.Goals.{then-comes_later, else-comes_later}
 
@@ -22,7 +22,7 @@ loop-k-preserved c =
     elim c.if-comes_later.branch [
       | then-comes_later w ↦
           subst next (sym w.sum-is)
-          (sum_next (inner p.marks.now p.placed p.unit c.args.i) (inner_low p.marks.now p.placed p.unit c.args.i)
+          (graded_next (inner p.marks.now p.placed p.unit c.args.i) (inner_low p.marks.now p.placed p.unit c.args.i)
           c.loop-k.k c.loop-k.sum c.loop-k.invariant w.compared.result w.add-sum.result
           (later_adds p.marks.now p.placed p.unit c.args.i (c.loop-k.k + 1) w.compared.result _ _ _ (sym c.comes_later.ensures ∙ w.if-comes_later.true) w.mark.ensures c.requires at.1 w.compared.ensures)
           w.add-sum.ensures)

@@ -2,7 +2,7 @@ use Rattle.std.proofs.Common.{◌+◌, sym, ◌∙◌, subst}
 use Rattle.rules.specs.Units.{labels, sum_ℤ}
 use Rattle.yardsticks.specs.declared.gradient.Grades.{Grades}
 use Rattle.yardsticks.specs.Gradients.{Graded}
-use Rattle.yardsticks.proofs.Sums.{row_mark, outer, outer_low, earlier_adds, none_adds, sum_fits, sum_next, sum_same}
+use Rattle.yardsticks.proofs.Sums.{row_mark, outer, outer_low, earlier_adds, none_adds, sum_fits, graded_next, sum_same}
 use Rattle.yardsticks.proofs.gradient.Placing.step.Goals as goal
 use Rattle.yardsticks.proofs.gradient.Placing.step.Goals.{then-has, else-has}
 
@@ -21,7 +21,7 @@ loop-i-preserved c =
     elim c.if-has.branch [
       | then-has w ↦
           subst next (sym w.sum-is)
-          (sum_next (outer p.marks.now p.placed p.unit) (outer_low p.marks.now p.placed p.unit)
+          (graded_next (outer p.marks.now p.placed p.unit) (outer_low p.marks.now p.placed p.unit)
           c.loop-i.i c.loop-i.sum c.loop-i.invariant w.past.result w.add-sum.result
           (earlier_adds p.marks.now p.placed p.unit (c.loop-i.i + 1) w.past.result (sym c.has.ensures ∙ w.if-has.true) w.past.ensures)
           w.add-sum.ensures)
