@@ -2,7 +2,7 @@
 ghost use Rattle.std.specs.Prelude.{◌≤◌, length};
 ghost use Rattle.answers.specs.declared.line.TheConstants.{LINE_ROOM};
 
-// A line that is being written at the start of a lent buffer, and how many bytes it has so far.
+// A line that is being written at the start of a lent buffer, and how many bytes it has so far. The memory is the caller's.
 #[derive(Drop)]
 pub(crate) struct Line<'a> {
     buffer: &'a mut [u8],

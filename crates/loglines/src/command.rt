@@ -1,4 +1,5 @@
-// What a pair's last word writes: how unlike the two units are, or that nobody compared them.
+// What a pair's last word writes: how unlike the two units are, or that nobody compared them. A type apart from the marks of
+// a sheet, since a line may write any number of 64 bits, and this crate uses no other.
 #[derive(Clone, Copy, PartialEq, Eq, Debug)]
 pub enum Mark {
     Number(u64),

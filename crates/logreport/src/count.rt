@@ -29,7 +29,7 @@ impl Kind {
         Kind::Refusal,
     ];
 
-    // The kind's name in a report.
+    // The kind's name in a report, for callers that want the text itself; `Display` writes it.
     pub fn words(self) -> &'static str
         ensures { result.now ≡ kind_words self }
     {

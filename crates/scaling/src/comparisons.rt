@@ -56,7 +56,8 @@ impl<'a> Row<'a> {
         }
     }
 
-    // How many comparisons of these hold.
+    // How many comparisons of these hold. The rule, as above, is a recursion over the front of the row; one function for both
+    // would take a closure and be no shorter.
     fn kept(self) -> u32
         ensures value { result ≡ kept (numbers_of self.entry.marks.now) self.entry.labels.now }
         ensures few { result ≤ 800 * length self.entry.labels.now }

@@ -8,7 +8,7 @@ use yardsticks::yardstick::Yardstick;
 // As many sets as eight units have.
 const SETS: usize = 256;
 
-// A sheet, with tables for the search by a yardstick.
+// A sheet, with tables for the search by a yardstick: two, as the search takes them.
 #[derive(Drop)]
 pub struct Asked<'a, Y: Yardstick> {
     sheet: &'a Sheet,

@@ -14,7 +14,7 @@ mod rankings;
 mod rows;
 mod site;
 
-// A row that keeps the ties and is far from the best.
+// A row that keeps the ties and is far from the best. Twelve places, since the site has twelve graves.
 const START: [u8; 12] = [12, 5, 10, 9, 2, 7, 6, 3, 4, 1, 8, 11];
 
 fn run(rt: &HostRuntime) -> anyhow::Result<()> {

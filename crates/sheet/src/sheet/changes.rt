@@ -49,10 +49,10 @@ impl Sheet {
         ensures { change_outcome result ≡ pair_outcome self.now.units.count a b }
     {
         let n = self.units.count as u64;
-        if a < 1 || a > n {
+        if !(1..=n).contains(&a) {
             return Err(SheetFault::Stranger(Label::First));
         }
-        if b < 1 || b > n {
+        if !(1..=n).contains(&b) {
             return Err(SheetFault::Stranger(Label::Second));
         }
         if a == b {
