@@ -1,12 +1,13 @@
 -- One cell of the tables: the greatest total and its count, one unit after another, from the cells of larger sets.
-use Rattle.std.proofs.Common.{◌≡◌, ℕ, ◌+◌, ◌-◌, ◌^◌, ◌<◌, ◌≤◌, Bool, true, false, cond, List, [], ◌∷◌, ◌++◌, map, length, get_or, ℤ, filter, sym, refl, ap, ◌∙◌, subst, subst₂, inl, inr, add-one, arith}
-use Rattle.std.proofs.lemmas.Bool.{both_ways, cases_eq, cond-true}
+use Rattle.std.proofs.Common.{◌≡◌, ℕ, ◌+◌, ◌-◌, ◌^◌, ◌<◌, ◌≤◌, Bool, true, false, cond, List, [], ◌∷◌, ◌++◌, map, length, get_or, ℤ, filter, Option, Some, None, MatchOption, IfSome, sym, refl, ap, ◌∙◌, subst, subst₂, inl, inr, add-one, arith}
+use Rattle.std.specs.Option.{unwrap_or}
+use Rattle.std.proofs.lemmas.Bool.{cases_eq, cond-true}
 use Rattle.rules.specs.Units.{label, labels, has, with_unit, size, sum_over}
 use Rattle.rules.specs.Yardsticks.{Merit, Lawful, Within, Low, Symmetric, zeros}
 use Rattle.rules.specs.Orders.{ready, ready_units, closed, circular}
 use Rattle.rules.specs.Ranking.{best, listed, greatest, total_cell, count_cell}
 use Rattle.rules.specs.Recurrence.{led, Searches}
-use Rattle.rules.proofs.Sets.{label_from, with_below, with_above, size_many, many_low, size_with}
+use Rattle.rules.proofs.Sets.{label_from, label_low, label_high, with_below, with_above, size_many, many_low, size_with}
 use Rattle.rules.proofs.Members.{In, in_right, filter_in, labels_in}
 use Rattle.rules.proofs.Lists.{sum_append}
 use Rattle.rules.proofs.Ways.{ready_out, ready_in, in_ready}
@@ -20,7 +21,7 @@ use Rattle.marks.specs.declared.ties.Ties.{Ties}
 use Rattle.marks.specs.Numbers.{units_of, numbers_of}
 use Rattle.marks.specs.Tied.{tied_of}
 use Rattle.marks.proofs.Laws.{least, most, symmetric, low as marks_low}
-use Rattle.search.specs.Above.{FilledFrom, Sound, CellOf, Led}
+use Rattle.search.specs.Above.{FilledFrom, Sound, CellOf, Led, better}
 use Rattle.search.proofs.Placing.{put, put_is}
 
 append_none : {X : Type 0} (xs : List X) → xs ++ [] ≡ xs
@@ -48,19 +49,15 @@ pub record Reached (y : Merit) (f : ℕ → List ℤ) (by : ℕ → ℕ) (xs : L
 moved : {y : Merit} {f : ℕ → List ℤ} {by : ℕ → ℕ} {xs : List ℕ} {t t' : List ℤ} {c c' : ℕ} → t' ≡ t → c' ≡ c → Reached y f by xs t c → Reached y f by xs t' c'
 moved {y} {f} {by} {xs} q r h = subst₂ (λ (u : List ℤ) (k : ℕ). Reached y f by xs u k) (sym q) (sym r) h
 
--- what a loop over units has found: none of them and the zero total, or else the greatest and its count
-pub record Sofar {T : Type 0} (numbers : T → List ℤ) (y : Merit) (f : ℕ → List ℤ) (by : ℕ → ℕ) (xs : List ℕ) (found : Bool) (v : T × ℕ) : Type 0 where
-  pub none : found ≡ false → (xs ≡ []) × (numbers v.0 ≡ zeros y.caps)
-  pub some : found ≡ true → Reached y f by xs (numbers v.0) v.1
+-- what a loop over units has found: nothing where there is none, or else the greatest and the count
+abbrev pub Sofar : {T : Type 0} → (T → List ℤ) → (y : Merit) → (ℕ → List ℤ) → (ℕ → ℕ) → List ℕ → Option (T × ℕ) → Type 0
+Sofar numbers y f by xs found = MatchOption found (xs ≡ []) (λ v. Reached y f by xs (numbers v.0) v.1)
 
 -- the same of the ready units up to i, by the cells of the sets with one of them more
-abbrev pub Found : {T : Type 0} → (T → List ℤ) → Merit → Marks → Ties → ℕ → ℕ → Bool → T × ℕ → Type 0
-Found numbers y m ts A i found v =
+abbrev pub Found : {T : Type 0} → (T → List ℤ) → Merit → Marks → Ties → ℕ → ℕ → Option (T × ℕ) → Type 0
+Found numbers y m ts A i found =
     Sofar numbers y (led y (numbers_of m) (tied_of ts) (units_of m) A) (λ j. count_cell y (numbers_of m) (tied_of ts) (units_of m) (with_unit A j))
-    (filter (ready (tied_of ts) (units_of m) A) (labels i)) found v
-
-pub start : {T : Type 0} (numbers : T → List ℤ) (y : Merit) (m : Marks) (ts : Ties) (A : ℕ) (t : T) → numbers t ≡ zeros y.caps → Found numbers y m ts A 0 false (t, 0)
-start numbers y m ts A t h = record { none = λ e. (refl, h); some = λ e. absurd (both_ways true (sym e) refl) }
+    (filter (ready (tied_of ts) (units_of m) A) (labels i)) found
 
 -- a closed set, of which the tables hold a cell
 pub record Here (y : Merit) (m : Marks) (ts : Ties) (A : ℕ) : Type 0 where
@@ -191,66 +188,86 @@ module _ {y : Merit} {m : Marks} {ts : Ties} {A : ℕ} (h : Here y m ts A) where
           omega (arith, s.count, ap (sum_over by) (taken i r), sum_append by (some i) ((i + 1) ∷ []))
 
   module _ {T : Type 0} (numbers : T → List ℤ) where
-    abbrev So : ℕ → Bool → T × ℕ → Type 0
-    So i found v = Sofar numbers y (led y p tied n A) (λ j. count_cell y p tied n (with_unit A j)) (some i) found v
+    abbrev So : ℕ → Option (T × ℕ) → Type 0
+    So i found = Sofar numbers y (led y p tied n A) (λ j. count_cell y p tied n (with_unit A j)) (some i) found
 
-    module _ (i : ℕ) (l : i < n) {found : Bool} {v : T × ℕ} (s : So i found v) where
+    module _ (i : ℕ) (l : i < n) where
       -- a unit that is not ready changes nothing
-      pub skip : ready tied n A (i + 1) ≡ false → {f : Bool} {w : T × ℕ} → f ≡ found → w.0 ≡ v.0 → w.1 ≡ v.1 → So (i + 1) f w
-      skip r e q z =
-          rw (e, q, z) (subst (λ (xs : List ℕ). Sofar numbers y (led y p tied n A) (λ j. count_cell y p tied n (with_unit A j)) xs found v) (sym (passed i r)) s)
+      pub skip : (found : Option (T × ℕ)) → ready tied n A (i + 1) ≡ false → So i found → So (i + 1) found
+      skip found r s = subst (λ (xs : List ℕ). Sofar numbers y (led y p tied n A) (λ j. count_cell y p tied n (with_unit A j)) xs found) (sym (passed i r)) s
 
-      module _ {w : T × ℕ} (led_to : Led numbers y m ts A (i + 1) w) where
-        reached : {f : Bool} {u : T × ℕ} → f ≡ true → Reached y via by (some (i + 1)) (numbers u.0) u.1 → So (i + 1) f u
-        reached e h = record { none = λ q. absurd (both_ways true (sym e ∙ q) refl); some = λ _. h }
+      module _ (w : T × ℕ) (v : Led numbers y m ts A (i + 1) w) where
+        -- one that is ready leaves the better
+        pub take_in : (found : Option (T × ℕ)) → So i found → So (i + 1) (Some (better (λ s t. y.exceeds (numbers s) (numbers t)) found w))
+        take_in None s = moved v.total v.count (first i l v.free s)
+        take_in (Some b) s = go (y.exceeds (numbers w.0) (numbers b.0)) (y.exceeds (numbers b.0) (numbers w.0)) refl refl
+          where
+            over : {q : Bool} → y.exceeds (numbers w.0) (numbers b.0) ≡ q → y.exceeds (via (i + 1)) (numbers b.0) ≡ q
+            over h = ap (λ (u : List ℤ). y.exceeds u (numbers b.0)) (sym v.total) ∙ h
 
-        -- one that is ready is the first, or greater, as great, or less
-        pub first_taken : found ≡ false → {f : Bool} {u : T × ℕ} → f ≡ true → u.0 ≡ w.0 → u.1 ≡ w.1 → So (i + 1) f u
-        first_taken e q a b = reached q (moved (ap numbers a ∙ led_to.total) (b ∙ led_to.count) (first i l led_to.free (s.none e).0))
+            under : {q : Bool} → y.exceeds (numbers b.0) (numbers w.0) ≡ q → y.exceeds (numbers b.0) (via (i + 1)) ≡ q
+            under h = ap (λ (u : List ℤ). y.exceeds (numbers b.0) u) (sym v.total) ∙ h
 
-        module _ (e : found ≡ true) where
-          pub above_taken : y.exceeds (numbers w.0) (numbers v.0) ≡ true → {f : Bool} {u : T × ℕ} → f ≡ true → u.0 ≡ w.0 → u.1 ≡ w.1 → So (i + 1) f u
-          above_taken h q a b =
-              reached q (moved (ap numbers a ∙ led_to.total) (b ∙ led_to.count)
-              (above i l led_to.free (s.some e) (ap (λ (t : List ℤ). y.exceeds t (numbers v.0)) (sym led_to.total) ∙ h)))
+            go : (p q : Bool) → y.exceeds (numbers w.0) (numbers b.0) ≡ p → y.exceeds (numbers b.0) (numbers w.0) ≡ q
+                → So (i + 1) (Some (cond p w (b.0, cond q b.1 (b.1 + w.1))))
+            go true q h k = moved v.total v.count (above i l v.free s (over h))
+            go false true h k = below i l v.free s (over h) (under k)
+            go false false h k = moved refl (ap (λ (q : ℕ). b.1 + q) v.count) (level i l v.free s (over h) (under k))
 
-          pub level_taken : y.exceeds (numbers w.0) (numbers v.0) ≡ false → y.exceeds (numbers v.0) (numbers w.0) ≡ false
-              → {f : Bool} {u : T × ℕ} → f ≡ true → u.0 ≡ v.0 → u.1 ≡ v.1 + w.1 → So (i + 1) f u
-          level_taken h k q a b =
-              reached q (moved (ap numbers a) (b ∙ ap (λ (z : ℕ). v.1 + z) led_to.count)
-              (level i l led_to.free (s.some e) (ap (λ (t : List ℤ). y.exceeds t (numbers v.0)) (sym led_to.total) ∙ h)
-              (ap (λ (t : List ℤ). y.exceeds (numbers v.0) t) (sym led_to.total) ∙ k)))
+        pub room : (found : Option (T × ℕ)) → So i found → IfSome found (λ b. b.1 + w.1 < 2 ^ 64)
+        room None s = tt
+        room (Some b) s = omega (arith, fits i l v.free s, v.count)
 
-          pub below_taken : y.exceeds (numbers w.0) (numbers v.0) ≡ false → y.exceeds (numbers v.0) (numbers w.0) ≡ true
-              → {f : Bool} {u : T × ℕ} → f ≡ true → u.0 ≡ v.0 → u.1 ≡ v.1 → So (i + 1) f u
-          below_taken h k q a b =
-              reached q (moved (ap numbers a) b
-              (below i l led_to.free (s.some e) (ap (λ (t : List ℤ). y.exceeds t (numbers v.0)) (sym led_to.total) ∙ h)
-              (ap (λ (t : List ℤ). y.exceeds (numbers v.0) t) (sym led_to.total) ∙ k)))
+    -- the same with the label u, as the loop has it
+    module _ (u : ℕ) (l : label n u ≡ true) where
+      before : u - 1 < n
+      before = omega (arith, label_low n u l, label_high n u l)
 
-          pub room : v.1 + w.1 < 2 ^ 64
-          room = omega (arith, fits i l led_to.free (s.some e), led_to.count)
+      is_next : u - 1 + 1 ≡ u
+      is_next = omega (arith, label_low n u l)
+
+      is_last : u - 1 + 1 ≡ u + 1 - 1
+      is_last = omega (arith, label_low n u l)
+
+      next_led : (w : T × ℕ) → Led numbers y m ts A u w → Led numbers y m ts A (u - 1 + 1) w
+      next_led w v = subst (λ (j : ℕ). Led numbers y m ts A j w) (sym is_next) v
+
+      module _ (found : Option (T × ℕ)) (s : So (u - 1) found) where
+        pub has_room : (w : T × ℕ) → Led numbers y m ts A u w → IfSome found (λ b. b.1 + w.1 < 2 ^ 64)
+        has_room w v = room (u - 1) before w (next_led w v) found s
+
+        pub taken_in : (w : T × ℕ) → Led numbers y m ts A u w → (r : T × ℕ) (f : Option (T × ℕ))
+            → r ≡ better (λ s t. y.exceeds (numbers s) (numbers t)) found w → f ≡ Some r → So (u + 1 - 1) f
+        taken_in w v r f e q =
+            subst₂ (λ (i : ℕ) (o : Option (T × ℕ)). So i o) is_last (ap Some (sym e) ∙ sym q) (take_in (u - 1) before w (next_led w v) found s)
+
+        pub passed_over : (f : Option (T × ℕ)) → ready tied n A u ≡ false → f ≡ found → So (u + 1 - 1) f
+        passed_over f r q =
+            subst₂ (λ (i : ℕ) (o : Option (T × ℕ)). So i o) is_last (sym q) (skip (u - 1) before found (ap (ready tied n A) is_next ∙ r) s)
 
     -- after all units
-    pub all_found : (i : ℕ) → i ≡ n → {found : Bool} {v : T × ℕ} → So i found v → found ≡ true → CellOf numbers y m ts A v
-    all_found i at_end {found} {v} s f =
-        let h = subst (λ (k : ℕ). Reached y via by (some k) (numbers v.0) v.1) at_end (s.some f) in
-        let w = ready_in tied n A h.one.0 h.one.1 in
-        let r = rule.cells_next A a (not_full h.one.0 w.0 w.1) shut in
+    all_found : (z : T) → numbers z ≡ zeros y.caps → (found : Option (T × ℕ)) → So n found → CellOf numbers y m ts A (unwrap_or found (z, 1))
+    all_found z e (Some v) s =
+        let w = ready_in tied n A s.one.0 s.one.1 in
+        let r = rule.cells_next A a (not_full s.one.0 w.0 w.1) shut in
         record {
-          total = h.most ∙ sym r.0;
-          count = h.count ∙ ap (λ (u : List ℤ). sum_over (λ x. cond (y.exceeds u (via x)) 0 (by x)) (ready_units tied n A)) (sym r.0) ∙ sym r.1;
+          total = s.most ∙ sym r.0;
+          count = s.count ∙ ap (λ (u : List ℤ). sum_over (λ x. cond (y.exceeds u (via x)) 0 (by x)) (ready_units tied n A)) (sym r.0) ∙ sym r.1;
         }
-
-    pub none_found : (i : ℕ) → i ≡ n → {found : Bool} {v : T × ℕ} → So i found v → found ≡ false → CellOf numbers y m ts A (v.0, 1)
-    none_found i at_end {found} {v} s f =
-        let none : length (ready_units tied n A) ≡ 0 = ap (λ (k : ℕ). length (some k)) (sym at_end) ∙ ap length (s.none f).0 in
+    all_found z e None s =
+        let none : length (ready_units tied n A) ≡ 0 = ap length s in
         let k : size n A ≡ n = elim (cases_eq (size n A) n) [
           | inl q ↦ q
           | inr ne ↦ absurd (omega (arith, rule.some_next A (omega (arith, size_many n A, many_low n A))))
         ] in
         let r = rule.cells_full A k in
-        record { total = (s.none f).1 ∙ sym r.0; count = sym r.1 }
+        record { total = e ∙ sym r.0; count = sym r.1 }
+
+    -- the same, as the loop ends
+    pub ended : (i : ℕ) → i ≡ n → (found f : Option (T × ℕ)) → So i found → f ≡ found → (z : T) → numbers z ≡ zeros y.caps
+        → (r : T × ℕ) → r ≡ unwrap_or f (z, 1) → CellOf numbers y m ts A r
+    ended i at_end found f s same z e r q =
+        subst (λ (v : T × ℕ). CellOf numbers y m ts A v) (sym q) (all_found z e f (subst₂ (λ (k : ℕ) (o : Option (T × ℕ)). So k o) at_end (sym same) s))
 
   -- one ready unit
   module _ {j : ℕ} (next_is : Next m ts A j) where

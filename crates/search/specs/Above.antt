@@ -1,5 +1,5 @@
 -- Tables over sets that are filled from the full set down to some set.
-use Rattle.std.specs.Prelude.{◌≡◌, ℕ, ◌^◌, ◌<◌, ◌≤◌, Bool, true, false, List, length, ℤ, slice_index, slice_index_or}
+use Rattle.std.specs.Prelude.{◌≡◌, ℕ, ◌+◌, ◌^◌, ◌<◌, ◌≤◌, Bool, true, false, cond, List, length, ℤ, Option, Some, None, slice_index, slice_index_or}
 use Rattle.rules.specs.Units.{with_unit}
 use Rattle.rules.specs.Yardsticks.{Merit}
 use Rattle.rules.specs.Orders.{ready, circular}
@@ -35,3 +35,8 @@ pub record Led {T : Type 0} (numbers : T → List ℤ) (y : Merit) (m : Marks) (
   pub free : ready (tied_of t) (units_of m) A j ≡ true
   pub total : numbers v.0 ≡ led y (numbers_of m) (tied_of t) (units_of m) A j
   pub count : v.1 ≡ count_cell y (numbers_of m) (tied_of t) (units_of m) (with_unit A j)
+
+-- the better of what was found and of one way more, by an order of the totals: of equal totals the counts add up
+abbrev pub better : {T : Type 0} → (T → T → Bool) → Option (T × ℕ) → T × ℕ → T × ℕ
+better exceeds None w = w
+better exceeds (Some v) w = cond (exceeds w.0 v.0) w (v.0, cond (exceeds v.0 w.0) v.1 (v.1 + w.1))

@@ -41,7 +41,6 @@ pub(crate) fn fill<Y: Yardstick>(sheet: Sheet, totals: &mut [Y::Total], counts: 
     ensures lengths { (length totals.new ≡ length totals.old) × (length counts.new ≡ length counts.old) }
 {
     // An index, since both lent tables are written at the place of a set, from the full set down.
-    // A range, since a set is the place of its cell in both tables.
     for set in (0..set_count(sheet.marks.size())).rev() {
         let tables = Tables::<Y> {
             sheet,

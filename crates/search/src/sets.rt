@@ -32,6 +32,5 @@ pub(crate) fn ready(ties: &Ties, set: u32, unit: usize) -> bool
 pub(crate) fn closed(ties: &Ties, set: u32) -> bool
     ensures { result ≡ closed (tied_of ties.now) (tied_units ties.now) set }
 {
-    // Places from 0, since `1..=units` is slower at each set (see `Stage::cell`).
-    (0..ties.units()).all(|i| !has(set, i + 1) || follows(ties, set, i + 1))
+    (1..=ties.units()).all(|unit| !has(set, unit) || follows(ties, set, unit))
 }

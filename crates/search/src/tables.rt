@@ -1,11 +1,11 @@
 // The tables over sets of a sheet, and what the cells of larger sets say of a closed set.
-ghost use Rattle.std.specs.Prelude.{◌≡◌, ◌+◌, ◌^◌, ◌<◌, true, false, MatchOption};
+ghost use Rattle.std.specs.Prelude.{◌≡◌, ◌+◌, ◌^◌, ◌<◌, true, false, MatchOption, IfSome};
 ghost use Rattle.rules.specs.Units.{label};
 ghost use Rattle.rules.specs.Orders.{closed, ready};
 ghost use Rattle.marks.specs.Numbers.{units_of, numbers_of};
 ghost use Rattle.marks.specs.Tied.{tied_of};
 ghost use Rattle.yardsticks.specs.Merits.{merit_of};
-ghost use Rattle.search.specs.Above.{FilledFrom, Sound, Room, CellOf, Led};
+ghost use Rattle.search.specs.Above.{FilledFrom, Sound, Room, CellOf, Led, better};
 
 use crate::sets::ready;
 use marks::marks::Marks;
@@ -56,6 +56,24 @@ impl<'a, Y: Yardstick> Clone for Stage<'a, Y> {
     }
 }
 
+// The better of what was found so far and one way on: of equal totals the counts add up.
+fn better<Y: Yardstick>(found: Option<(Y::Total, u64)>, way: (Y::Total, u64)) -> (Y::Total, u64)
+    requires { IfSome found (λ v. v.1 + way.1 < 2 ^ 64) }
+    ensures { result ≡ better (λ s t. Y.Yardstick.exceeds (Y.Yardstick.numbers s) (Y.Yardstick.numbers t)) found way }
+{
+    let (total, more) = way;
+    let Some((best, count)) = found else {
+        return (total, more);
+    };
+    if Y::exceeds(total, best) {
+        (total, more)
+    } else if Y::exceeds(best, total) {
+        (best, count)
+    } else {
+        (best, count + more)
+    }
+}
+
 impl<'a, Y: Yardstick> Stage<'a, Y> {
     // The total that is reached with a unit next, and in how many ways; none if the unit may not come next.
     pub(crate) fn way(&self, unit: usize) -> Option<(Y::Total, u64)>
@@ -80,24 +98,12 @@ impl<'a, Y: Yardstick> Stage<'a, Y> {
     pub(crate) fn cell(&self) -> (Y::Total, u64)
         ensures { CellOf Y.Yardstick.numbers (merit_of Y.Yardstick) self.now.tables.sheet.marks.now self.now.tables.sheet.ties.now self.now.placed result }
     {
-        // A flag, and places from 0: an Option and `1..=units` cost the search by spread a quarter more instructions.
-        let mut found = false;
-        let mut best = Y::zero();
-        let mut count = 0;
-        for i in 0..self.tables.sheet.marks.units() {
-            if let Some((total, more)) = self.way(i + 1) {
-                if !found {
-                    found = true;
-                    best = total;
-                    count = more;
-                } else if Y::exceeds(total, best) {
-                    best = total;
-                    count = more;
-                } else if !Y::exceeds(best, total) {
-                    count += more;
-                }
+        let mut found = None;
+        for unit in 1..=self.tables.sheet.marks.units() {
+            if let Some(way) = self.way(unit) {
+                found = Some(better::<Y>(found, way));
             }
         }
-        if found { (best, count) } else { (best, 1) }
+        found.unwrap_or((Y::zero(), 1))
     }
 }
