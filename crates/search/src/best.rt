@@ -49,6 +49,7 @@ pub fn lacks_room(units: usize, totals: usize, counts: usize, row: usize) -> boo
     if units > 20 {
         return true;
     }
+    // Not by `set_count`, since any number up to 20 is answered, also 0 and 1.
     let sets = 1 << units;
     totals < sets || counts < sets || row < units
 }

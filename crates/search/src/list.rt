@@ -39,6 +39,7 @@ impl<'a, Y: Yardstick> Stage<'a, Y> {
             }
             left -= ways;
         }
+        // No unit is left, which the rule writes as 0.
         (0, left)
     }
 }

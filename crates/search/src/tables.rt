@@ -48,6 +48,7 @@ pub(crate) struct Stage<'a, Y: Yardstick> {
     ghost above: { FilledFrom Y.Yardstick.numbers (merit_of Y.Yardstick) (numbers_of tables.sheet.marks.now) (tied_of tables.sheet.ties.now) (units_of tables.sheet.marks.now) (placed + 1) tables.totals.now tables.counts.now },
 }
 
+// By hand, as for `Tables`.
 impl<'a, Y: Yardstick> Copy for Stage<'a, Y> {}
 
 impl<'a, Y: Yardstick> Clone for Stage<'a, Y> {

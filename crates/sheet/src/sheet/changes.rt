@@ -48,11 +48,10 @@ impl Sheet {
     fn pair(&self, a: u64, b: u64) -> Result<(), SheetFault>
         ensures { change_outcome result ≡ pair_outcome self.now.units.count a b }
     {
-        let n = self.units.count as u64;
-        if !(1..=n).contains(&a) {
+        if !self.units.has_label(a as usize) {
             return Err(SheetFault::Stranger(Label::First));
         }
-        if !(1..=n).contains(&b) {
+        if !self.units.has_label(b as usize) {
             return Err(SheetFault::Stranger(Label::Second));
         }
         if a == b {
