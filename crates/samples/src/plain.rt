@@ -20,7 +20,8 @@ fn mark(marks: &Marks, a: u8, b: u8) -> u16 {
     marks.mark(usize::from(a), usize::from(b))
 }
 
-// The marks of the unit at a place to the units before it, minus its marks to those after it.
+// The marks of the unit at a place to the units before it, minus its marks to those after it. A bound of twenty in three
+// places, since a type of short slices would be longer.
 fn displacement(marks: &Marks, order: &[u8], place: usize) -> i64
     requires { (length order.now ≤ 20) × (place < length order.now) }
     ensures { unsigned_abs result ≤ 65535 * 20 }
