@@ -3,7 +3,7 @@ use Rattle.std.proofs.lemmas.Int.{ints}
 use Rattle.rules.specs.Units.{displacement}
 use Rattle.rules.proofs.Rows.{is_order_means}
 use Rattle.marks.specs.Numbers.{units_of, numbers_of}
-use Rattle.scaling.proofs.Displacing.{near, none_yet, next_few, next_unit, all_written, all_squares, all_few}
+use Rattle.scaling.proofs.Displacing.{near, none_yet, next_few, next_unit}
 use Rattle.scaling.proofs.coordinates.displace.Goals as goal
 
 pub loop-i-init : goal.loop-i-init
@@ -32,13 +32,3 @@ loop-i-preserved c =
     let r = c.squared-squares.ensures ∙ ap (λ (x : ℕ). x * x) c.unsigned_abs.ensures.value in
     next_unit m c.args.order.now c.requires.order c.args.list.now _ _ _ _ c.loop-i.invariant c.loop-i-test.true _ c.from-unit.ensures _ _ d r _ c.with_unit-placed.ensures
     (omega (arith, c.loop-i.auto.list, c.requires.room, (is_order_means (units_of m) c.args.order.now c.requires.order).as_many))
-
-pub returns : goal.returns
-returns c =
-    let m = c.args.marks.now in
-    let o = c.args.order.now in
-    record {
-      list = all_written m o c.requires.order c.args.list.now _ _ _ _ c.loop-i.invariant (omega arith);
-      squares = all_squares m o c.requires.order c.args.list.now _ _ _ _ c.loop-i.invariant (omega arith);
-      low = all_few m o c.requires.order c.args.list.now _ _ _ _ c.loop-i.invariant (omega arith);
-    }

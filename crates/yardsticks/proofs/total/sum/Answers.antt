@@ -3,9 +3,6 @@ use Rattle.yardsticks.proofs.Laws.{lawful}
 use Rattle.yardsticks.proofs.Adding as adding
 use Rattle.yardsticks.proofs.total.sum.Goals as goal
 
-pub step-requires : goal.step-requires
-step-requires g c = adding.step_asks (lawful g.met.Y.Yardstick) c.requires c.loop-label.invariant c.loop-label-test.true
-
 pub add-sum-requires : goal.add-sum-requires
 add-sum-requires g c =
     adding.adding_asks (lawful g.met.Y.Yardstick) c.requires c.loop-label.invariant c.loop-label-test.true _ c.step.ensures

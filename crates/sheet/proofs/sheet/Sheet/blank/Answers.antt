@@ -1,14 +1,7 @@
 use Rattle.std.proofs.Common.{refl, arith}
 use Rattle.rules.specs.declared.Mark.TheVariants.{Gap}
-use Rattle.std.proofs.lemmas.Result.{err_from_is_err_and}
-use Rattle.sheet.specs.Faults.{sheet_refusal}
-use Rattle.sheet.proofs.Changing.{refused_blank, passed, put_low, blanked}
+use Rattle.sheet.proofs.Changing.{passed, put_low, blanked}
 use Rattle.sheet.proofs.sheet.Sheet.blank.Goals as goal
-
-pub returns-in_err-pair : goal.returns-in_err-pair
-returns-in_err-pair c =
-    let p = err_from_is_err_and c.from_residual.result c.from_residual.ensures.1 in
-    rw (p.1, p.2) (refused_blank c.args.self.now c.args.a c.args.b (sheet_refusal c.in_err-pair.field-0.0) c.in_err-pair.ensures)
 
 pub invariant_of-self : goal.invariant_of-self
 invariant_of-self c =
