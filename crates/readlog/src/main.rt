@@ -3,6 +3,7 @@
 
 use loglines::log::LONGEST_LOG;
 use logreport::report::report;
+use std::fmt;
 use std::io::Read;
 
 fn main(rt: HostRuntime) -> anyhow::Result<()> {
@@ -11,7 +12,8 @@ fn main(rt: HostRuntime) -> anyhow::Result<()> {
     rt.stdin()
         .take(LONGEST_LOG as u64 + 1)
         .read_to_end(&mut input)?;
-    let text = report(rt.alloc(), input.as_slice())?;
+    // A report fails by want of memory alone; the program says so in the words of a text that could not be written.
+    let text = report(rt.alloc(), input.as_slice()).map_err(|_| fmt::Error)?;
     rt.print(text)?;
     Ok(())
 }
