@@ -1,12 +1,13 @@
 -- Number words and the numbers that they write.
-use Rattle.std.specs.Prelude.{◌≡◌, ℕ, ◌^◌, ◌<◌, List, length, decimal, Ok, Err, Result, IsOk, MatchResult, IsUtf8}
-use Rattle.std.proofs.Common.{sym, refl, ◌∙◌, ⊎_elim, arith}
-use Rattle.std.specs.Str.Parse.{digits_value, ParsesUnsigned}
-use Rattle.std.proofs.str.Laws.{order}
-use Rattle.std.proofs.lemmas.Fmt.{decimal-digits_value, parse-decimal}
-use Rattle.std.proofs.lemmas.List.{get_or_past}
-use Rattle.std.proofs.lemmas.Str.{IsUtf8-from_ascii}
+use Rattle.std.specs.Prelude.{◌≡◌, ℕ, ◌+◌, ◌-◌, ◌*◌, ◌^◌, ◌<◌, List, [], ◌∷◌, ◌++◌, length, take, drop, decimal}
+use Rattle.std.proofs.Common.{refl, sym, subst, arith, rules, length-append, length-take-le, take-append-drop}
+use Rattle.std.specs.Str.Parse.{digits_value}
+use Rattle.std.specs.Int.{IsInRange}
+use Rattle.std.specs.Char.{digit_value as digitValue}
+use Rattle.std.proofs.lemmas.Fmt.{decimal-digits_value}
+use Rattle.std.proofs.lemmas.List.{get_or_append_left, get_or_push}
 use Rattle.std.proofs.lemmas.Str.Parse.{digits_value_short}
+use Rattle.std.proofs.lemmas.Int.Digits.{digits_value_push}
 use Rattle.loglines.specs.Words.{AllDigits, Numeral}
 use Rattle.loglines.specs.Text.{Short}
 use Rattle.loglines.specs.Spelled.{own}
@@ -17,17 +18,21 @@ decimal_numeral s h =
     let small : digits_value 10 s < 10 ^ 19 = digits_value_short own s 19 h.digits h.fits in
     (small, sym (decimal-digits_value own s h.digits h.some h.lean (omega arith)))
 
--- it is a text
-pub digits_text : (s : List ℕ) → AllDigits s → IsUtf8 s
-digits_text s h = IsUtf8-from_ascii s (λ i. ⊎_elim (λ lt. omega (arith, h i lt)) (λ le. omega (arith, get_or_past s i 0 le)) (order i (length s)))
+digit_value : (c : ℕ) → IsInRange 48 57 c → digitValue c ≡ c - 48
+digit_value c h = search rules
 
-pub text_read : {T E : Type 0} (s : List ℕ) (r : Result T E) (Q : T → Type 0) (R : E → Type 0) → IsUtf8 s → MatchResult r Q (λ e. ¬ (IsUtf8 s) × R e) → IsOk r
-text_read s (Ok t) Q R text h = refl
-text_read s (Err e) Q R text h = absurd (h.0 text)
+-- what a word of digits begins with
+pub digits_front : (s t : List ℕ) → AllDigits (s ++ t) → AllDigits s
+digits_front s t h i lt = rw (sym (get_or_append_left s t 0 i lt)) (h i (omega (arith, length-append s t)))
 
--- and is parsed as its number
-pub numeral_parsed : {E : Type 0} (s bs : List ℕ) (r : Result ℕ E) → Numeral s → bs ≡ s → ParsesUnsigned 64 10 bs r → r ≡ Ok (digits_value 10 s)
-numeral_parsed s bs r h same parsed =
-    let p = decimal_numeral s h in
-    let small = p.0 in
-    parse-decimal 64 (digits_value 10 s) bs r (omega arith) (omega arith) (same ∙ p.1) parsed
+-- one digit more
+pub digits_push : (s : List ℕ) (c m n : ℕ) → (AllDigits s → m ≡ digits_value 10 s) → n ≡ m * 10 + (c - 48) → AllDigits (s ++ c ∷ []) → n ≡ digits_value 10 (s ++ c ∷ [])
+digits_push s c m n before more h =
+    let last = subst (IsInRange 48 57) (get_or_push s c 0 (length s) refl) (h (length s) (omega (arith, length-append s (c ∷ [])))) in
+    omega (arith, more, before (digits_front s _ h), digits_value_push 10 s c, digit_value c last)
+
+-- the digits before the last write a number below 10^18
+pub digits_before : (s front : List ℕ) (i n : ℕ) → Numeral s → i < length s → front ≡ take i s → (AllDigits front → n ≡ digits_value 10 front) → n < 10 ^ 18
+digits_before s front i n h lt is read =
+    let digits : AllDigits front = rw is (digits_front (take i s) (drop i s) (rw take-append-drop h.digits)) in
+    omega (arith, read digits, digits_value_short own front 18 digits (rw is (omega (arith, h.fits, length-take-le i s))))

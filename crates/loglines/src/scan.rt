@@ -24,7 +24,7 @@ pub(crate) fn number(word: &[u8]) -> u64
     requires { Numeral word.now }
     ensures { result ≡ digits_value 10 word.now }
 {
-    str::from_utf8(word).unwrap().parse().unwrap()
+    word.iter().fold(0, |n, b| n * 10 + u64::from(*b - b'0'))
 }
 
 // The word that the bytes of `s` are, if they are one.
