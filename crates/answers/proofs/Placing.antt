@@ -1,12 +1,16 @@
 -- One text after another in a lent buffer.
-use Rattle.std.proofs.Common.{◌≡◌, ℕ, ◌+◌, ◌<◌, ◌≤◌, List, [], ◌++◌, length, get_or, take, drop, sym, ap, ◌∙◌, append_assoc, zero-add, arith, length-append, length-take-le, drop-drop}
-use lib.Seq.{take-append-add, drop-append-add, take-append_seam}
+use Rattle.std.proofs.Common.{◌≡◌, ℕ, ◌+◌, ◌<◌, ◌≤◌, List, [], ◌∷◌, ◌++◌, length, get_or, take, drop, set, sym, refl, ap, ◌∙◌, append_assoc, zero-add, add-one, arith, length-append, length-take-le, drop-drop}
+use lib.Seq.{take-append-add, drop-append-add, take-append_seam, set_split}
 use Rattle.std.specs.List.{flat_map}
 use Rattle.std.proofs.lemmas.List.{take_more, flat_map_more}
 use Rattle.answers.specs.Places.{Placed, Begun, Appended}
 use Rattle.answers.specs.declared.text.Line.{Line}
 use Rattle.std.specs.Borrow.{MutBor}
 use Rattle.answers.specs.Lines.{Starts}
+
+-- a byte that is set
+pub placed_byte : (b : List ℕ) (at x : ℕ) → at < length b → Placed (x ∷ []) at b (set b at x) (at + 1)
+placed_byte b at x lt = record { ends = refl; bytes = rw add-one (set_split b at x lt) }
 
 -- a text, and then another
 pub placed_more : {t u b m a : List ℕ} {at e f : ℕ} → at ≤ length b → Placed t at b m e → Placed u e m a f → Placed (t ++ u) at b a f

@@ -1,7 +1,7 @@
 ghost use Rattle.std.specs.Prelude.{ℕ, ◌+◌, ◌≤◌, List, length, decimal};
 ghost use Rattle.std.specs.Fmt.{signed_decimal};
 ghost use Rattle.answers.specs.declared.line.TheConstants.{LINE_ROOM};
-ghost use Rattle.answers.specs.Places.{Appended};
+ghost use Rattle.answers.specs.Places.{Placed, Appended};
 
 use crate::text::Line;
 
@@ -53,16 +53,19 @@ impl Number for i64 {
     }
 }
 
-impl Line<'_> {
-    // Writes the decimal digits of n after what the line has.
-    // Not by `write!`, whose clauses say what was written where it answers `Ok`, but never that it does.
-    fn put_decimal(&mut self, n: u64)
-        requires { self.old.len + length (decimal n) ≤ LINE_ROOM }
-        ensures { Appended (decimal n) self.old self.new }
-    {
-        if n >= 10 {
-            self.put_decimal(n / 10);
-        }
-        self.put_byte(b'0' + (n % 10) as u8);
+// Writes the decimal digits of n at a place of the buffer, and answers the place after them.
+// The place is passed, since a line's length would be stored anew with each digit.
+// Not by `write!`, whose clauses say what was written where it answers `Ok`, but never that it does.
+pub(crate) fn place_decimal(buffer: &mut [u8], at: usize, n: u64) -> usize
+    requires { at + length (decimal n) ≤ length buffer.old }
+    ensures { Placed (decimal n) at buffer.old buffer.new result }
+{
+    if n < 10 {
+        buffer[at] = b'0' + n as u8;
+        at + 1
+    } else {
+        let end = place_decimal(buffer, at, n / 10);
+        buffer[end] = b'0' + (n % 10) as u8;
+        end + 1
     }
 }

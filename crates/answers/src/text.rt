@@ -2,6 +2,8 @@
 ghost use Rattle.std.specs.Prelude.{◌≤◌, length};
 ghost use Rattle.answers.specs.declared.line.TheConstants.{LINE_ROOM};
 
+use crate::number::place_decimal;
+
 // A line that is being written at the start of a lent buffer, and how many bytes it has so far. The memory is the caller's.
 #[derive(Drop)]
 pub(crate) struct Line<'a> {
@@ -12,7 +14,7 @@ pub(crate) struct Line<'a> {
 }
 
 impl<'a> Line<'a> {
-    ghost use Rattle.std.specs.Prelude.{◌+◌, ◌<◌, ◌≡◌, [], ◌∷◌};
+    ghost use Rattle.std.specs.Prelude.{◌+◌, ◌<◌, ◌≡◌, [], ◌∷◌, decimal};
     ghost use Rattle.answers.specs.Places.{Begun, Appended};
 
     // Begins a line with no byte yet.
@@ -25,12 +27,14 @@ impl<'a> Line<'a> {
     }
 
     // Writes a byte after what the line has.
+    // The length is read once, since it would be loaded anew after the byte is stored.
     pub(crate) fn put_byte(&mut self, byte: u8)
         requires { self.old.len < LINE_ROOM }
         ensures { Appended (byte ∷ []) self.old self.new }
     {
-        self.buffer[self.len] = byte;
-        self.len += 1;
+        let at = self.len;
+        self.buffer[at] = byte;
+        self.len = at + 1;
     }
 
     // Writes a text after what the line has.
@@ -41,5 +45,13 @@ impl<'a> Line<'a> {
         let end = self.len + text.len();
         self.buffer[self.len..end].copy_from_slice(text);
         self.len = end;
+    }
+
+    // Writes the decimal digits of n after what the line has.
+    pub(crate) fn put_decimal(&mut self, n: u64)
+        requires { self.old.len + length (decimal n) ≤ LINE_ROOM }
+        ensures { Appended (decimal n) self.old self.new }
+    {
+        self.len = place_decimal(self.buffer, self.len, n);
     }
 }
