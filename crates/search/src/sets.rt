@@ -32,5 +32,6 @@ pub(crate) fn ready(ties: &Ties, set: u32, unit: usize) -> bool
 pub(crate) fn closed(ties: &Ties, set: u32) -> bool
     ensures { result ≡ closed (tied_of ties.now) (tied_units ties.now) set }
 {
-    (1..=ties.units()).all(|unit| !has(set, unit) || follows(ties, set, unit))
+    // Places from 0, which take fewer instructions at each set than `1..=units`.
+    (0..ties.units()).all(|place| !has(set, place + 1) || follows(ties, set, place + 1))
 }
