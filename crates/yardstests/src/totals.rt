@@ -4,7 +4,7 @@ use std::test::Fail;
 use yardsticks::gradient::{Grades, Gradient};
 use yardsticks::spread::Spread;
 use yardsticks::target::Target;
-use yardsticks::total::total;
+use yardsticks::total::{gradient_total, spread_total, target_total, total};
 
 fn grades(signs: i32, rises: i32) -> Grades {
     Grades { signs, rises }
@@ -13,6 +13,8 @@ fn grades(signs: i32, rises: i32) -> Grades {
 #[test]
 fn spread(rt: HostRuntime) -> Result<(), Fail> {
     let marks = three(2, 7, 4)?;
+    assert_eq!(rt; spread_total(&marks, &[1, 2, 3]), Some(206));
+    assert_eq!(rt; spread_total(&marks, &[3, 2, 1, 9]), Some(206));
     assert_eq!(rt; total::<Spread>(&marks, &[1, 2, 3]), Some(206));
     assert_eq!(rt; total::<Spread>(&marks, &[3, 2, 1, 9]), Some(206));
     Ok(())
@@ -21,6 +23,9 @@ fn spread(rt: HostRuntime) -> Result<(), Fail> {
 #[test]
 fn gradients(rt: HostRuntime) -> Result<(), Fail> {
     let marks = three(2, 7, 4)?;
+    assert_eq!(rt; gradient_total(&marks, &[1, 3, 2]), Some(grades(-2, -7)));
+    assert_eq!(rt; gradient_total(&marks, &[1, 2, 3]), Some(grades(2, 8)));
+    assert_eq!(rt; gradient_total(&marks, &[2, 1, 3]), Some(grades(0, -1)));
     assert_eq!(rt; total::<Gradient>(&marks, &[1, 3, 2]), Some(grades(-2, -7)));
     assert_eq!(rt; total::<Gradient>(&marks, &[1, 2, 3]), Some(grades(2, 8)));
     assert_eq!(rt; total::<Gradient>(&marks, &[2, 1, 3]), Some(grades(0, -1)));
@@ -45,6 +50,8 @@ fn grades_compared_and_printed(rt: HostRuntime) -> Result<(), Fail> {
 #[test]
 fn target(rt: HostRuntime) -> Result<(), Fail> {
     let marks = three(2, 7, 4)?;
+    assert_eq!(rt; target_total(&marks, &[2, 1, 3]), Some(17));
+    assert_eq!(rt; target_total(&marks, &[1, 2, 3]), Some(20));
     assert_eq!(rt; total::<Target>(&marks, &[2, 1, 3]), Some(17));
     assert_eq!(rt; total::<Target>(&marks, &[1, 2, 3]), Some(20));
     Ok(())
@@ -53,6 +60,11 @@ fn target(rt: HostRuntime) -> Result<(), Fail> {
 #[test]
 fn no_order(rt: HostRuntime) -> Result<(), Fail> {
     let marks = three(2, 7, 4)?;
+    assert_eq!(rt; spread_total(&marks, &[1, 2]), None);
+    assert_eq!(rt; spread_total(&marks, &[1, 2, 2]), None);
+    assert_eq!(rt; gradient_total(&marks, &[1, 2, 2]), None);
+    assert_eq!(rt; target_total(&marks, &[1, 2, 4]), None);
+    assert_eq!(rt; target_total(&marks, &[0, 1, 2]), None);
     assert_eq!(rt; total::<Spread>(&marks, &[1, 2]), None);
     assert_eq!(rt; total::<Spread>(&marks, &[1, 2, 2]), None);
     assert_eq!(rt; total::<Target>(&marks, &[1, 2, 4]), None);

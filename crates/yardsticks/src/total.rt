@@ -1,11 +1,15 @@
 // The total of an order under any yardstick.
-ghost use Rattle.std.specs.Prelude.{◌≡◌, true, false, MatchOption};
+ghost use Rattle.std.specs.Prelude.{◌≡◌, true, false, [], ◌∷◌, pos, MatchOption};
 ghost use Rattle.rules.specs.Orders.{is_order};
+ghost use Rattle.rules.specs.Yardsticks.{spread, gradient, target};
 ghost use Rattle.marks.specs.Numbers.{units_of};
 ghost use Rattle.yardsticks.specs.Members.{AsRuled};
 ghost use Rattle.yardsticks.specs.Merits.{merit_of};
 ghost use Rattle.yardsticks.specs.Totals.{order_of, total_of, Totals};
 
+use crate::gradient::{Grades, Gradient};
+use crate::spread::Spread;
+use crate::target::Target;
 use crate::yardstick::Yardstick;
 use marks::marks::Marks;
 use marks::sets::with_unit;
@@ -31,6 +35,25 @@ pub fn total<Y: Yardstick>(marks: &Marks, row: &[u8]) -> Option<Y::Total>
 {
     let order = marks.order_in(row)?;
     Some(sum::<Y>(marks, order))
+}
+
+// The same for spread, gradient and target, each with the rulebook's yardstick in its contract, for callers that quote it.
+pub fn spread_total(marks: &Marks, row: &[u8]) -> Option<u64>
+    ensures { Totals spread (λ t. pos t ∷ []) marks.now row.now result }
+{
+    total::<Spread>(marks, row)
+}
+
+pub fn gradient_total(marks: &Marks, row: &[u8]) -> Option<Grades>
+    ensures { Totals gradient (λ t. t.signs ∷ t.rises ∷ []) marks.now row.now result }
+{
+    total::<Gradient>(marks, row)
+}
+
+pub fn target_total(marks: &Marks, row: &[u8]) -> Option<i64>
+    ensures { Totals target (λ t. t ∷ []) marks.now row.now result }
+{
+    total::<Target>(marks, row)
 }
 
 // Caps, adding, comparing and steps of the three are those of the rulebook, and the numbers of their totals are these.
