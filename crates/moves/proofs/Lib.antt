@@ -3,3 +3,4 @@ pub mod Pairs
 pub mod Insertions
 pub mod Passes
 pub mod Answering
+pub mod Trials
