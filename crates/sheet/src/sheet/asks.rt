@@ -90,7 +90,8 @@ impl Sheet {
         ensures { Checks (contents self.now) row.now (check_reply result) }
     {
         let marks = self.ordered(row)?;
-        Ok(comparisons(&marks, row).unwrap())
+        let (kept, broken) = comparisons(&marks, row).unwrap();
+        Ok((kept, broken))
     }
 
     // Makes the first move that gives a tie-keeping order of greater total, again and again, until there is none or the

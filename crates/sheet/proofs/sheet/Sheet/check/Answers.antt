@@ -12,4 +12,4 @@ returns-in_err-marks c =
 pub returns : goal.returns
 returns c =
     let m = c.in_ok-marks.ensures in
-    compared_here c.args.self.now c.in_ok-marks.marks m.1 c.args.row.now m.0 c.unwrap.result (rw c.unwrap.ensures at c.comparisons.ensures)
+    compared_here c.args.self.now c.in_ok-marks.marks m.1 c.args.row.now m.0 c.unwrap-kept.result (rw c.unwrap-kept.ensures at c.comparisons.ensures)
